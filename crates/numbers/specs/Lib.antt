@@ -1,0 +1,8 @@
+pub mod Ops
+pub mod Kinds
+pub mod Order
+pub mod Powers
+pub mod Units
+pub mod Nearest
+pub mod Root
+pub mod Log
