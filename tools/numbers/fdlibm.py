@@ -20,6 +20,12 @@ Lg5 = 1.818357216161805012e-01
 Lg6 = 1.531383769920937332e-01
 Lg7 = 1.479819860511658591e-01
 
+# the file's numbers by which it takes one way or another; its conditions are
+halve = 0x95F64  # (hx + halve) & 0x100000
+near = 2, 3  # (0x000fffff & (2 + hx)) < 3
+least = 0x6147A  # i = hx - least
+most = 0x6B851  # j = most - hx
+
 LEAVES = ["f = 0, k = 0", "f = 0, k /= 0", "|f| < 2^-20, k = 0", "|f| < 2^-20, k /= 0", "i > 0, k = 0", "i > 0, k /= 0", "i <= 0, k = 0", "i <= 0, k /= 0"]
 
 # Every way through the file. k = 0 needs no scaling by 2^54, and f = 0 no halving.
@@ -65,13 +71,13 @@ def steps(bits):
         return x + x, "infinity" if x == x else "NaN"
     k += (hx >> 20) - 1023
     hx &= 0x000FFFFF
-    i = hx + 0x95F64 & 0x100000
+    i = hx + halve & 0x100000
     x = of_bits((hx | i ^ 0x3FF00000) << 32 | to_bits(x) & 0xFFFFFFFF)
     way = f"{start}, {'x/2' if i else 'x'}, "
     k += i >> 20
     f = x - 1.0
     at = "k = 0" if k == 0 else "k /= 0"
-    if (0x000FFFFF & 2 + hx) < 3:
+    if (0x000FFFFF & near[0] + hx) < near[1]:
         if f == 0.0:
             if k == 0:
                 return 0.0, f"{way}f = 0, {at}"
@@ -86,9 +92,9 @@ def steps(bits):
     s = f / (2.0 + f)
     dk = float(k)
     z = s * s
-    i = hx - 0x6147A
+    i = hx - least
     w = z * z
-    j = 0x6B851 - hx
+    j = most - hx
     t1 = w * (Lg2 + w * (Lg4 + w * Lg6))
     t2 = z * (Lg1 + w * (Lg3 + w * (Lg5 + w * Lg7)))
     i |= j
