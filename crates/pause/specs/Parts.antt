@@ -1,0 +1,63 @@
+-- The parts of a fit over any data S, its three counts, and how it ends. Assumes nothing.
+use Prim.Native.Nat.{ℕ, _+_}
+
+-- what opening a round finds: the solver is ready; the fit is done, converged; the solver's tolerance is tiny, at or below 0
+pub data Opened (S : Type 0) : Type 0 where
+  ready : S → Opened S
+  done : S → Opened S
+  tiny : S → Opened S
+
+-- what a solver round finds: more rounds are wanted; the solver stops.
+-- A breakdown, `broke : S → Turned S`, an end as refused 19, would join here, in `solve`, `afterTurn` and `OfTurned`,
+-- and as one more case of `AtSolving` in the proofs
+pub data Turned (S : Type 0) : Type 0 where
+  more : S → Turned S
+  stop : S → Turned S
+
+-- what a search trial finds: it is accepted; the step is to be halved
+pub data Tried (S : Type 0) : Type 0 where
+  accept : S → Tried S
+  halve : S → Tried S
+
+-- rounds are numbered from 0, and in each at most `solves` solver rounds from 1 on and at most `trials` trials are made;
+-- `aim` follows the last solver round
+pub record Parts (S : Type 0) : Type 0 where
+  pub opens : ℕ → S → Opened S
+  pub turns : ℕ → S → Turned S
+  pub aim : S → S
+  pub tries : S → Tried S
+  pub solves : ℕ
+  pub trials : ℕ
+
+-- rounds opened, solver rounds made, trials made
+pub record Counts : Type 0 where
+  pub rounds : ℕ
+  pub solver : ℕ
+  pub trials : ℕ
+
+abbrev pub none : Counts
+none = record { rounds = 0; solver = 0; trials = 0 }
+
+unfoldable pub round+ : Counts → Counts
+round+ c = record { rounds = c .rounds + 1; solver = c .solver; trials = c .trials }
+
+unfoldable pub solver+ : Counts → Counts
+solver+ c = record { rounds = c .rounds; solver = c .solver + 1; trials = c .trials }
+
+unfoldable pub trial+ : Counts → Counts
+trial+ c = record { rounds = c .rounds; solver = c .solver; trials = c .trials + 1 }
+
+-- the steps made in all
+unfoldable pub made : Counts → ℕ
+made c = c .rounds + c .solver + c .trials
+
+pub data How : Type 0 where
+  converged : How
+  limit : How
+  refused : ℕ → How
+
+pub data End (S : Type 0) : Type 0 where
+  end : How → Counts → S → End S
+
+abbrev pub howOf : {S : Type 0} → End S → How
+howOf (end h c s) = h

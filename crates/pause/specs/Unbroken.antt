@@ -1,0 +1,54 @@
+-- The unbroken fit: nested loops of rounds, solve and search that count as they go, with no stage, step or budget. Assumes nothing.
+use Prim.Native.Nat.{ℕ, zero, suc, _+_}
+use Rattle.pause.specs.Progress.{Progress, over, going, then}
+use Rattle.pause.specs.Parts.{ready, done, tiny, more, stop, accept, halve, Parts}
+use Rattle.pause.specs.Parts.{Counts, none, round+, solver+, trial+, converged, limit, refused, End, end}
+
+-- the data with the counts so far
+pub data Work (S : Type 0) : Type 0 where
+  work : Counts → S → Work S
+
+module _ {S : Type 0} (F : Parts S) where
+  -- round r opens
+  unfoldable pub openRound : ℕ → Work S → Progress (End S) (Work S)
+  openRound r (work c s) =
+      elim (F .opens r s) [
+        | ready t ↦ going (work (round+ c) t)
+        | done t ↦ over (end converged (round+ c) t)
+        | tiny t ↦ over (end (refused 8) (round+ c) t)
+      ]
+
+  -- at most f solver rounds, from the k-th on
+  unfoldable pub solve : ℕ → ℕ → Work S → Progress (End S) (Work S)
+  solve zero k (work c s) = going (work c (F .aim s))
+  solve (suc f) k (work c s) =
+      elim (F .turns k s) [
+        | more t ↦ solve f (k + 1) (work (solver+ c) t)
+        | stop t ↦ going (work (solver+ c) (F .aim t))
+      ]
+
+  -- at most f trials
+  unfoldable pub lineSearch : ℕ → Work S → Progress (End S) (Work S)
+  lineSearch zero (work c s) = over (end (refused 7) c s)
+  lineSearch (suc f) (work c s) =
+      elim (F .tries s) [
+        | accept t ↦ going (work (trial+ c) t)
+        | halve t ↦ lineSearch f (work (trial+ c) t)
+      ]
+
+  unfoldable pub oneRound : ℕ → Work S → Progress (End S) (Work S)
+  oneRound r w = then (openRound r w) (λ v. then (solve (F .solves) 1 v) (lineSearch (F .trials)))
+
+  -- f rounds, from the r-th on
+  unfoldable pub manyRounds : ℕ → ℕ → Work S → Progress (End S) (Work S)
+  manyRounds zero r w = going w
+  manyRounds (suc f) r w = then (oneRound r w) (manyRounds f (r + 1))
+
+-- what has made all its rounds ends as limit
+unfoldable pub close : {S : Type 0} → Progress (End S) (Work S) → End S
+close (over e) = e
+close (going (work c s)) = end limit c s
+
+-- the fit of at most M rounds
+unfoldable pub unbroken : {S : Type 0} → Parts S → ℕ → S → End S
+unbroken F M s = close (manyRounds F M 0 (work none s))
