@@ -9,10 +9,6 @@ pub mod Patterns
 pub mod SquareRoot
 mod RootCases
 pub mod Corners
-mod Whole
-pub mod Scaled
-pub mod LogSpecials
-pub mod LogCorners
 pub mod Sign
 pub mod Absorb
 pub mod PowersOfTwo

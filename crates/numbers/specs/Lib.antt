@@ -5,4 +5,3 @@ pub mod Powers
 pub mod Units
 pub mod Nearest
 pub mod Root
-pub mod Log

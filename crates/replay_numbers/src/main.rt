@@ -67,7 +67,7 @@ fn answer(kind: u64, argument: u64) -> u64 {
     if kind == 1 {
         numbers::bits::bits_of(numbers::square_root::root(x))
     } else {
-        numbers::bits::bits_of(numbers::logarithm::ln(x))
+        numbers::bits::bits_of(logarithm::ln(x))
     }
 }
 

@@ -1,10 +1,10 @@
 // The natural logarithm, step for step that of fdlibm's e_log.c; a subnormal is normalised by its leading zeros instead of the product with 2^54.
-use super::normal::normalised;
+use numbers::normal::normalised;
 ghost use mathlib.Core.Path.{_≡_};
 ghost use Prim.Native.Nat.{_+_, _*_, _<_, _≤_};
 ghost use lib.IntN.{pos};
 ghost use lib.Ieee.{binary64, ofInt, minus};
-ghost use Rattle.numbers.specs.Log.{closeOf, seriesOf, midOf, outOf, farOf, normalLn, lnOf};
+ghost use Rattle.logarithm.specs.Log.{closeOf, seriesOf, midOf, outOf, farOf, normalLn, lnOf};
 
 // ln2_hi, ln2_lo, Lg1 .. Lg7
 const LG: [f64; 9] = [

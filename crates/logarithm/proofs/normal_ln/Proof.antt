@@ -2,11 +2,11 @@
 use mathlib.Core.Path.{_∙_}
 use native.Mathlib.Omega.{arith}
 use borrow.Author.Tests.{lt-ltb, le-ltb}
 use Rattle.numbers.proofs.Nans.{bits-not-nan}
-use Rattle.numbers.proofs.Scaled.{lnAt, ln-at-power}
+use Rattle.logarithm.proofs.Scaled.{lnAt, ln-at-power}
 use borrow.Author.Needs.{needs}
-use Rattle.numbers.proofs.logarithm.normal_ln.Statement.{statement}
-use Rattle.numbers.proofs.logarithm.normal_ln.Tie as tie
+use Rattle.logarithm.proofs.normal_ln.Statement.{statement}
+use Rattle.logarithm.proofs.normal_ln.Tie as tie
 
 add-i : tie.Need-add-i
 add-i c = search needs

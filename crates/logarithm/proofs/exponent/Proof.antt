@@ -1,10 +1,10 @@
 -- `logarithm::exponent` is the float of c - 1075: by the magnitude's float, negated where c is below 1075. Assumes nothing.
 use mathlib.Core.Path.{_∙_, ap}
 use lib.Ieee.{binary64, neg}
-use Rattle.numbers.proofs.Whole.{float-up, float-down}
+use Rattle.logarithm.proofs.Whole.{float-up, float-down}
 use borrow.Author.Needs.{needs}
-use Rattle.numbers.proofs.logarithm.exponent.Statement.{statement}
-use Rattle.numbers.proofs.logarithm.exponent.Tie as tie
+use Rattle.logarithm.proofs.exponent.Statement.{statement}
+use Rattle.logarithm.proofs.exponent.Tie as tie
 
 sub-small : tie.Need-sub-small
 sub-small c = search needs

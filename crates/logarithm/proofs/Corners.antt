@@ -3,7 +3,7 @@ use mathlib.Core.Path.{_≡_, refl}
 use mathlib.Core.List.{List, [], _∷_, map}
 use Prim.Native.Nat.{ℕ}
 use lib.Ieee.{binary64, ofBits, toBits, ofInt, add, sub, mul, div, eq}
-use Rattle.numbers.specs.Log.{closeOf, seriesOf, midOf, outOf, farOf, normalLn, lnOf}
+use Rattle.logarithm.specs.Log.{closeOf, seriesOf, midOf, outOf, farOf, normalLn, lnOf}
 
 -- the bits of x and of its logarithm
 abbrev pub corners : List (ℕ × ℕ)

@@ -5,13 +5,13 @@ use lib.Dec.{T}
 use native.Mathlib.Omega.{arith}
 use lib.Ieee.{nan, inf, binary64, div, neg, ofBits}
 use lib.Ieee.Bits.{ofBits-toBits}
-use Rattle.numbers.specs.Log.{lnOf}
+use Rattle.logarithm.specs.Log.{lnOf}
 use Rattle.numbers.proofs.Nans.{a-nan, not-nan}
-use Rattle.numbers.proofs.Scaled.{leading-zeros-agree}
-use Rattle.numbers.proofs.LogSpecials.{ln-nan, ln-of-zero-bits, ln-of-signed-bits, ln-of-top-bits}
+use Rattle.logarithm.proofs.Scaled.{leading-zeros-agree}
+use Rattle.logarithm.proofs.Specials.{ln-nan, ln-of-zero-bits, ln-of-signed-bits, ln-of-top-bits}
 use borrow.Author.Needs.{needs}
-use Rattle.numbers.proofs.logarithm.ln.Statement.{statement}
-use Rattle.numbers.proofs.logarithm.ln.Tie as tie
+use Rattle.logarithm.proofs.ln.Statement.{statement}
+use Rattle.logarithm.proofs.ln.Tie as tie
 
 passed : (b : Bool) → b ≡ true → T b
 passed b e = subst T (sym e) tt

@@ -1,9 +1,9 @@
 -- `logarithm::close` is `closeOf`: its branches are the code's tests. Assumes nothing.
-use Rattle.numbers.specs.Log.{closeOf}
-use Rattle.numbers.proofs.Whole.{zero-at, zero-off}
+use Rattle.logarithm.specs.Log.{closeOf}
+use Rattle.logarithm.proofs.Whole.{zero-at, zero-off}
 use borrow.Author.Needs.{needs}
-use Rattle.numbers.proofs.logarithm.close.Statement.{statement}
-use Rattle.numbers.proofs.logarithm.close.Tie as tie
+use Rattle.logarithm.proofs.close.Statement.{statement}
+use Rattle.logarithm.proofs.close.Tie as tie
 
 exponent-requires : tie.Need-exponent-requires
 exponent-requires c κs = search needs

@@ -1,9 +1,9 @@
 -- `logarithm::series` is `seriesOf`, operation for operation. Assumes nothing.
 use mathlib.Core.Path.{refl}
-use Rattle.numbers.specs.Log.{seriesOf}
+use Rattle.logarithm.specs.Log.{seriesOf}
 use borrow.Author.Needs.{needs}
-use Rattle.numbers.proofs.logarithm.series.Statement.{statement}
-use Rattle.numbers.proofs.logarithm.series.Tie as tie
+use Rattle.logarithm.proofs.series.Statement.{statement}
+use Rattle.logarithm.proofs.series.Tie as tie
 
 array-read-t1 : tie.Need-array-read-t1
 array-read-t1 c = search needs

@@ -7,7 +7,7 @@ use lib.Dec.{leb, ltb}
 use lib.IntN.{pos, negsuc}
 use lib.Ieee.{Format, prec, emax, low, odd, units, round, neg, inf, ofInt, minus}
 use borrow.Author.Tests.{le-leb, lt-leb, leb-true, leb-false, eq-eqb, ne-eqb}
-use Rattle.numbers.specs.Log.{isZero}
+use Rattle.logarithm.specs.Log.{isZero}
 
 -- ---- `round true` is `round false` with a minus sign
 odd-flip : (d q k l : ℕ) → odd d true q k l ≡ neg (odd d false q k l)

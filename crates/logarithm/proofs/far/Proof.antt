@@ -1,10 +1,10 @@
 -- `logarithm::far` is `farOf`: mid in its range, and out on either side of it. Assumes nothing.
 use mathlib.Core.Path.{_∙_}
 use borrow.Author.Tests.{le-leb, lt-leb}
-use Rattle.numbers.specs.Log.{farOf}
+use Rattle.logarithm.specs.Log.{farOf}
 use borrow.Author.Needs.{needs}
-use Rattle.numbers.proofs.logarithm.far.Statement.{statement}
-use Rattle.numbers.proofs.logarithm.far.Tie as tie
+use Rattle.logarithm.proofs.far.Statement.{statement}
+use Rattle.logarithm.proofs.far.Tie as tie
 
 series-requires : tie.Need-series-requires
 series-requires c κs = search needs

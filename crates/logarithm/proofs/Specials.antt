@@ -13,10 +13,10 @@ use lib.Ieee.Bits.{ofBits-toBits, toBits-lt}
 use lib.Ieee.Fits.{up-pos, down-pos}
 use lib.Ieee.Exact.{HasValue, round-exact}
 use borrow.Author.Tests.{le-ltb, le-leb, lt-leb, ne-eqb, eq-eqb}
 use Rattle.numbers.specs.Ops.{_⊕_, _⊖_, _⊘_, f64}
 use Rattle.numbers.specs.Kinds.{under, nzero}
-use Rattle.numbers.specs.Log.{zero, lnOf}
+use Rattle.logarithm.specs.Log.{zero, lnOf}
 use Rattle.numbers.proofs.Values.{bits-fields}
 
 -- ---- (x - x) / 0 is a NaN, whatever x is
 zero-by-zero : (x : Float) (s : Bool) (c : ℕ) → 0 < c → HasValue x s 0 c → x ⊘ zero ≡ nan

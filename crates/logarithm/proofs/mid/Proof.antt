@@ -1,12 +1,12 @@
--- `logarithm::out` is `outOf`. Assumes nothing.
-use Rattle.numbers.specs.Log.{outOf}
-use Rattle.numbers.proofs.Whole.{zero-at, zero-off}
+-- `logarithm::mid` is `midOf`. Assumes nothing.
+use Rattle.logarithm.specs.Log.{midOf}
+use Rattle.logarithm.proofs.Whole.{zero-at, zero-off}
 use borrow.Author.Needs.{needs}
-use Rattle.numbers.proofs.logarithm.out.Statement.{statement}
-use Rattle.numbers.proofs.logarithm.out.Tie as tie
+use Rattle.logarithm.proofs.mid.Statement.{statement}
+use Rattle.logarithm.proofs.mid.Tie as tie
 
 returns : tie.Need-returns
-unfolding outOf
+unfolding midOf
 returns c = simp (zero-at _ 1075 (c .if1 .taken))
 
 exponent-requires : tie.Need-exponent-requires
@@ -19,9 +19,9 @@ array-read-result-2 : tie.Need-array-read-result-2
 array-read-result-2 c = search needs
 
 returns-2 : tie.Need-returns-2
-unfolding outOf
+unfolding midOf
 returns-2 c = simp (c .exponent .ensures, zero-off _ 1075 (c .before .if1 .left))
 
-pub out-spec : {M : Type 1} → statement M
-out-spec =
+pub mid-spec : {M : Type 1} → statement M
+mid-spec =
     tie.close (tie.spec returns exponent-requires array-read-result array-read-result-2 returns-2)

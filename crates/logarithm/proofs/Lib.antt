@@ -1,0 +1,4 @@
+mod Whole
+pub mod Scaled
+pub mod Specials
+pub mod Corners
