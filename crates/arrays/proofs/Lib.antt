@@ -1,0 +1,4 @@
+pub mod Turns
+pub mod Commute
+pub mod Norms
+mod Scans

@@ -1,0 +1,74 @@
+-- `arrays::sums::norm_inf` meets its contract. Assumes nothing.
+use Prim.Native.Nat.{_≤_, _-_}
+use mathlib.Core.Path.{_≡_, sym, _∙_}
+use mathlib.Core.Bool.{true}
+use native.Mathlib.Omega.{arith}
+use lib.Ieee.{nan, inf, div, neg, ofBits}
+use Rattle.arrays.specs.Part.{part, getD-part}
+use Rattle.arrays.specs.Sums.{_!_, fold-none, fold-turn, foldTo, normInfOf}
+use Rattle.numbers.specs.Ops.{magnitudeOf}
+use Rattle.numbers.specs.Order.{maximumOf}
+use Rattle.arrays.proofs.sums.norm_inf.Statement.{statement}
+use Rattle.arrays.proofs.sums.norm_inf.Tie as tie
+
+abbrev Inv-loop : tie.InvT-loop
+Inv-loop x a n t₀ i₀ t i = (i ≤ n) × (t ≡ foldTo maximumOf (inf true) (λ k. magnitudeOf (part x a n ! k)) i)
+
+abbrev μ-loop : tie.MeasureT-loop
+μ-loop x a n t₀ i₀ t i = n - i
+
+loop-holds : tie.Need-loop-holds Inv-loop μ-loop
+unfolding div neg ofBits
+loop-holds c = (omega arith, sym (fold-none _ _ _))
+
+add-magnitude : tie.Need-add-magnitude Inv-loop μ-loop
+add-magnitude c = omega arith
+
+mul-magnitude : tie.Need-mul-magnitude Inv-loop μ-loop
+mul-magnitude c = omega arith
+
+shared-slice-read-magnitude : tie.Need-shared-slice-read-magnitude Inv-loop μ-loop
+shared-slice-read-magnitude c = omega arith
+
+magnitude-requires : tie.Need-magnitude-requires Inv-loop μ-loop
+magnitude-requires c κs = tt
+
+maximum-requires : tie.Need-maximum-requires Inv-loop μ-loop
+maximum-requires c κs = tt
+
+add-i : tie.Need-add-i Inv-loop μ-loop
+add-i c = omega arith
+
+loop-less : tie.Need-loop-less Inv-loop μ-loop
+loop-less c = omega arith
+
+loop-again : tie.Need-loop-again Inv-loop μ-loop
+loop-again c =
+    let at = c .before .before .before .before in
+    let g = at .before .before .args in
+    let e = getD-part (g .x .now) (g .a) (g .n) (at .loop .i) nan (omega arith) in
+    (omega arith, c .maximum .ensures ∙ fold-turn maximumOf _ _ (at .loop .i) (at .loop .t) _ (at .loop .inv .1) (rw (c .before .magnitude .ensures, e)))
+
+returns : tie.Need-returns Inv-loop μ-loop
+unfolding normInfOf
+returns c =
+    let at = c .before in
+    let e : at .loop .i ≡ at .before .before .args .n = omega arith in
+    rw e at (at .loop .inv .1)
+
+pub norm-inf-spec : {M : Type 1} → statement M
+norm-inf-spec =
+    tie.close
+    (tie.spec
+    Inv-loop
+    μ-loop
+    loop-holds
+    add-magnitude
+    mul-magnitude
+    shared-slice-read-magnitude
+    magnitude-requires
+    maximum-requires
+    add-i
+    loop-less
+    loop-again
+    returns)

@@ -1,0 +1,77 @@
+-- `arrays::vectors::copy_from` meets its contract. Assumes nothing.
+use Prim.Native.Nat.{_-_}
+use mathlib.Core.Path.{sym}
+use native.Mathlib.Omega.{arith}
+use lib.Ieee.{nan}
+use Rattle.arrays.specs.Part.{part, getD-part}
+use Rattle.arrays.specs.Sums.{_!_}
+use Rattle.arrays.proofs.Turns.{Made, made-none, made-more, made-copy}
+use Rattle.arrays.proofs.vectors.copy_from.Statement.{statement}
+use Rattle.arrays.proofs.vectors.copy_from.Tie as tie
+
+abbrev Inv-loop : tie.InvT-loop
+Inv-loop s₀ out t a n i₀ s i = Made s₀ out n (λ k. part t a n ! k) s i
+
+abbrev μ-loop : tie.MeasureT-loop
+μ-loop s₀ out t a n i₀ s i = n - i
+
+loop-holds : tie.Need-loop-holds Inv-loop μ-loop
+loop-holds c = made-none _ _ _ _
+
+add-s : tie.Need-add-s Inv-loop μ-loop
+add-s c = omega arith
+
+mul-s : tie.Need-mul-s Inv-loop μ-loop
+mul-s c = omega arith
+
+shared-slice-read-s : tie.Need-shared-slice-read-s Inv-loop μ-loop
+shared-slice-read-s c = omega arith
+
+add-s-2 : tie.Need-add-s-2 Inv-loop μ-loop
+add-s-2 c = omega arith
+
+mul-s-2 : tie.Need-mul-s-2 Inv-loop μ-loop
+mul-s-2 c = omega arith
+
+slice-write-s : tie.Need-slice-write-s Inv-loop μ-loop
+slice-write-s c = omega arith
+
+add-i : tie.Need-add-i Inv-loop μ-loop
+add-i c = omega arith
+
+loop-less : tie.Need-loop-less Inv-loop μ-loop
+loop-less c = omega arith
+
+loop-again : tie.Need-loop-again Inv-loop μ-loop
+loop-again c =
+    let at = c .before .before in
+    let g = at .before .args in
+    made-more (at .loop .inv) _ (omega arith) (sym (getD-part (g .t .now) (g .a) (g .n) (at .loop .i) nan (omega arith)))
+
+same-length : tie.Need-same-length Inv-loop μ-loop
+same-length c = omega arith
+
+returns : tie.Need-returns Inv-loop μ-loop
+returns c =
+    let at = c .before in
+    let g = at .before .args in
+    made-copy (g .t .now) (g .a) (at .loop .inv) (omega arith) (omega arith)
+
+pub copy-from-spec : {M : Type 1} → statement M
+copy-from-spec =
+    tie.close
+    (tie.spec
+    Inv-loop
+    μ-loop
+    loop-holds
+    add-s
+    mul-s
+    shared-slice-read-s
+    add-s-2
+    mul-s-2
+    slice-write-s
+    add-i
+    loop-less
+    loop-again
+    same-length
+    returns)

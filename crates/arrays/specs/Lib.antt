@@ -1,0 +1,4 @@
+pub mod Part
+pub mod Sums
+pub mod Vectors
+pub mod Scan

@@ -1,0 +1,27 @@
+// The scan for values that are not finite.
+ghost use mathlib.Core.Path.{_≡_};
+ghost use lib.Ieee.Scale.{finite as isFinite};
+ghost use Rattle.arrays.specs.Scan.{firstInfinite};
+
+pub enum Found {
+    Clean,
+    At(usize),
+}
+
+pub fn finite(x: f64) -> bool
+    ensures { λ r. ⌜ r ≡ isFinite x ⌝ }
+{
+    if x < 1.0 / 0.0 { -1.0 / 0.0 < x } else { false }
+}
+
+// The first value that is not finite.
+pub fn first_infinite(x: &[f64]) -> Found
+    ensures { λ r. ⌜ r ≡ firstInfinite 0 (now (x .entry)) ⌝ }
+{
+    for i in 0..x.len() {
+        if !finite(x[i]) {
+            return Found::At(i);
+        }
+    }
+    Found::Clean
+}

@@ -1,0 +1,91 @@
+// Sums of the n elements from `a` of a slice, in index order, each from the start that its line of the Rust has.
+use numbers::bits::magnitude;
+use numbers::order::maximum;
+use numbers::square_root::root;
+ghost use mathlib.Core.Path.{_≡_};
+ghost use Prim.Native.Nat.{_+_, _≤_, _<_, _^_};
+ghost use lib.ListN.{length};
+ghost use Rattle.arrays.specs.Part.{part};
+ghost use Rattle.arrays.specs.Sums.{sumOf, dotOf, productOf, norm1Of, norm2Of, normInfOf, meanOf, whole};
+
+// From -0.
+pub fn sum(x: &[f64], a: usize, n: usize) -> f64
+    requires { ⌜ a + n ≤ length (now x) ⌝ }
+    ensures { λ r. ⌜ r ≡ sumOf n (part (now (x .entry)) a n) ⌝ }
+{
+    let mut t = -0.0;
+    for i in 0..n {
+        t = t + x[a + i];
+    }
+    t
+}
+
+// From -0.
+pub fn dot(x: &[f64], a: usize, y: &[f64], b: usize, n: usize) -> f64
+    requires { ⌜ (a + n ≤ length (now x)) × (b + n ≤ length (now y)) ⌝ }
+    ensures { λ r. ⌜ r ≡ dotOf n (part (now (x .entry)) a n) (part (now (y .entry)) b n) ⌝ }
+{
+    let mut t = -0.0;
+    for i in 0..n {
+        t = t + x[a + i] * y[b + i];
+    }
+    t
+}
+
+// From +0.
+pub fn product(x: &[f64], a: usize, y: &[f64], b: usize, n: usize) -> f64
+    requires { ⌜ (a + n ≤ length (now x)) × (b + n ≤ length (now y)) ⌝ }
+    ensures { λ r. ⌜ r ≡ productOf n (part (now (x .entry)) a n) (part (now (y .entry)) b n) ⌝ }
+{
+    let mut t = 0.0;
+    for i in 0..n {
+        t = t + x[a + i] * y[b + i];
+    }
+    t
+}
+
+pub fn norm_1(x: &[f64], a: usize, n: usize) -> f64
+    requires { ⌜ a + n ≤ length (now x) ⌝ }
+    ensures { λ r. ⌜ r ≡ norm1Of n (part (now (x .entry)) a n) ⌝ }
+{
+    let mut t = 0.0;
+    for i in 0..n {
+        t = t + magnitude(x[a + i]);
+    }
+    t
+}
+
+// norm2 and norm(2), whose definitions agree.
+pub fn norm_2(x: &[f64], a: usize, n: usize) -> f64
+    requires { ⌜ a + n ≤ length (now x) ⌝ }
+    ensures { λ r. ⌜ r ≡ norm2Of n (part (now (x .entry)) a n) ⌝ }
+{
+    root(product(x, a, x, a, n))
+}
+
+// From -infinity; NaNs are passed over.
+pub fn norm_inf(x: &[f64], a: usize, n: usize) -> f64
+    requires { ⌜ a + n ≤ length (now x) ⌝ }
+    ensures { λ r. ⌜ r ≡ normInfOf n (part (now (x .entry)) a n) ⌝ }
+{
+    let mut t = -1.0 / 0.0;
+    for i in 0..n {
+        t = maximum(t, magnitude(x[a + i]));
+    }
+    t
+}
+
+// n as f64, for the sizes of a fit.
+pub fn float_of(n: usize) -> f64
+    requires { ⌜ n < 2 ^ 32 ⌝ }
+    ensures { λ r. ⌜ r ≡ whole n ⌝ }
+{
+    n as u32 as f64
+}
+
+pub fn mean(x: &[f64], a: usize, n: usize) -> f64
+    requires { ⌜ (a + n ≤ length (now x)) × (n < 2 ^ 32) ⌝ }
+    ensures { λ r. ⌜ r ≡ meanOf n (part (now (x .entry)) a n) ⌝ }
+{
+    sum(x, a, n) / float_of(n)
+}

@@ -1,0 +1,66 @@
+-- 01's ranges of the settings, and gamma, padding and lambda in the Rust's order of operations. Definitions only.
+use Prim.Native.Nat.{ℕ, _≤_}
+use mathlib.Core.Path.{_≡_}
+use mathlib.Core.Bool.{Bool, true, cond, _&&_}
+use lib.Dec.{leb}
+use lib.Ieee.{Float, le}
+use Rattle.numbers.specs.Ops.{_⊕_, _⊖_, _⊗_, _⊘_, f64}
+use Rattle.numbers.specs.Order.{maximumOf}
+use Rattle.numbers.specs.Root.{rootOf}
+use Rattle.arrays.specs.Sums.{whole}
+use Rattle.settings.specs.declared.Settings.{Settings}
+use Rattle.settings.specs.declared.Terms.{Terms}
+
+-- from 0, of either sign, to `most`; a NaN is not
+unfoldable pub rangeOf : Float → Float → Bool
+rangeOf x most = le (f64 0) x && le x most
+
+-- R and C are not looked at unless lazy
+unfoldable pub panelsOf : Settings → Bool
+panelsOf st =
+    cond (st .lazy) (leb 1 (st .«panel_rows») && leb (st .«panel_rows») 256 && leb 1 (st .«panel_cols») && leb (st .«panel_cols») 32) true
+
+abbrev pub million : Float
+million = f64 0x412e_8480_0000_0000
+
+abbrev pub one : Float
+one = f64 0x3ff0_0000_0000_0000
+
+-- the largest finite number
+abbrev pub largest : Float
+largest = f64 0x7fef_ffff_ffff_ffff
+
+-- 2 ^ -52
+abbrev pub epsilon : Float
+epsilon = f64 0x3cb0_0000_0000_0000
+
+unfoldable pub allowedOf : Settings → Bool
+allowedOf st =
+    rangeOf (st .alpha) million && rangeOf (st .«l1_ratio») one && rangeOf (st .tol) largest && leb (st .rounds) 1000 && panelsOf st
+
+-- the bounds on R and C where lazy
+pub record Panels (st : Settings) : Type 0 where
+  pub rows-least : 1 ≤ st .«panel_rows»
+  pub rows-most : st .«panel_rows» ≤ 256
+  pub columns-least : 1 ≤ st .«panel_cols»
+  pub columns-most : st .«panel_cols» ≤ 32
+
+-- what the other crates take from the test: its bounds on numbers
+pub record Allowed (st : Settings) : Type 0 where
+  pub rounds : st .rounds ≤ 1000
+  pub panels : st .lazy ≡ true → Panels st
+
+-- l1_reg, l2_reg
+unfoldable pub l1Of : Settings → ℕ → Float
+l1Of st n = st .alpha ⊗ st .«l1_ratio» ⊗ whole n
+
+unfoldable pub l2Of : Settings → ℕ → Float
+l2Of st n = st .alpha ⊗ (one ⊖ st .«l1_ratio») ⊗ whole n
+
+unfoldable pub gammaOf : Float → Float
+gammaOf l2 = one ⊘ rootOf (one ⊕ l2)
+
+unfoldable pub termsOf : Settings → ℕ → Terms
+termsOf st n =
+    let gamma = gammaOf (l2Of st n) in
+    record { gamma = gamma; padding = gamma ⊗ rootOf (l2Of st n); lambda = maximumOf (l1Of st n ⊗ gamma) epsilon }
