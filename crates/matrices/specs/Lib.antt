@@ -1,2 +1,3 @@
 pub mod Products
 pub mod Stats
+pub mod Grid

@@ -1,0 +1,8 @@
+pub mod Scanning
+pub mod Checks
+mod Keeping
+mod Turning
+mod Looping
+mod Running
+mod Outcomes
+pub mod LoneSolver

@@ -1,0 +1,4 @@
+pub mod Solver
+pub mod Shared
+pub mod Lone
+pub mod Solve

@@ -1,0 +1,232 @@
+// The lone solver: a x = b, for a matrix in a slice of its own, from a start whose place the solution takes. Its scratch is eight vectors.
+use super::shared::Seven;
+use super::shared::Turned;
+use super::shared::advance;
+use super::shared::answered;
+use super::shared::direct;
+use super::shared::error;
+use super::shared::error_of;
+use arrays::scan::Found;
+use arrays::scan::finite;
+use arrays::scan::first_infinite;
+use arrays::sums::norm_2;
+use arrays::vectors::copy;
+use arrays::vectors::copy_from;
+use arrays::vectors::fill;
+use arrays::vectors::sub;
+use matrices::products::columns_of;
+use matrices::products::rows_of;
+use refusal::Refusal;
+ghost use mathlib.Core.Path.{_≡_};
+ghost use Prim.Native.Nat.{_*_, _≤_};
+ghost use lib.ListN.{length};
+ghost use Rattle.arrays.specs.Part.{part, put};
+ghost use Rattle.arrays.specs.Vectors.{Two};
+ghost use Rattle.bg_solver.specs.Lone.{diagonalOf, dividedOf, overOf, Begun, LoneTurn, Loops};
+ghost use Rattle.bg_solver.specs.Solve.{Outcome.outcome, refusedOf, checked, valued, foundAt, Near, solved, Runs, Ran, Looped, solveOf};
+
+pub enum Answer {
+    Solved(f64),
+    Refused(Refusal),
+}
+
+pub enum Checked {
+    Fine,
+    Bad(Refusal),
+}
+
+// Total, for all input: what is answered and what the lent memory then holds is `solveOf`.
+pub fn solve(
+    n: usize,
+    a: &[f64],
+    b: &[f64],
+    x: &mut [f64],
+    tol: f64,
+    limit: usize,
+    s: &mut [f64],
+) -> Answer
+    ensures { λ r. ⌜ outcome r (now (x .exit)) (now (s .exit)) ≡ solveOf n (now (a .entry)) (now (b .entry)) (now (x .entry)) tol limit (now (s .entry)) ⌝ }
+{
+    let c = check(n, a, b, x, tol, limit, s.len());
+    let Checked::Fine = c else {
+        return refused(c);
+    };
+    Answer::Solved(run(n, a, b, x, tol, limit, s))
+}
+
+fn refused(c: Checked) -> Answer
+    ensures { λ r. ⌜ r ≡ refusedOf c ⌝ }
+{
+    match c {
+        Checked::Bad(r) => Answer::Refused(r),
+        Checked::Fine => Answer::Solved(0.0),
+    }
+}
+
+// The first refusal that holds.
+fn check(n: usize, a: &[f64], b: &[f64], x: &[f64], tol: f64, limit: usize, room: usize) -> Checked
+    ensures { λ r. ⌜ r ≡ checked n (now (a .entry)) (now (b .entry)) (now (x .entry)) tol limit room ⌝ }
+{
+    if n < 1 {
+        return Checked::Bad(Refusal::Size);
+    }
+    if n > 64 {
+        return Checked::Bad(Refusal::Size);
+    }
+    if a.len() != n * n {
+        return Checked::Bad(Refusal::Length);
+    }
+    if b.len() != n {
+        return Checked::Bad(Refusal::Length);
+    }
+    if x.len() != n {
+        return Checked::Bad(Refusal::Length);
+    }
+    if limit > 5000 {
+        return Checked::Bad(Refusal::Setting);
+    }
+    if !finite(tol) {
+        return Checked::Bad(Refusal::Setting);
+    }
+    if room < 8 * n {
+        return Checked::Bad(Refusal::Scratch);
+    }
+    values(n, a, b, x, tol, limit)
+}
+
+// 5 and after it.
+fn values(n: usize, a: &[f64], b: &[f64], x: &[f64], tol: f64, limit: usize) -> Checked
+    requires { ⌜ (length (now a) ≡ n * n) × (length (now b) ≡ n) × (n ≤ 64) ⌝ }
+    ensures { λ r. ⌜ r ≡ valued (now (a .entry)) (now (b .entry)) (now (x .entry)) tol limit ⌝ }
+{
+    let f = first_infinite(a);
+    let Found::Clean = f else {
+        return at(f, 0);
+    };
+    let f = first_infinite(b);
+    let Found::Clean = f else {
+        return at(f, n * n);
+    };
+    let f = first_infinite(x);
+    let Found::Clean = f else {
+        return at(f, n * n + n);
+    };
+    if tol <= 0.0 {
+        return Checked::Bad(Refusal::Tolerance);
+    }
+    if limit == 0 {
+        return Checked::Bad(Refusal::NoRounds);
+    }
+    Checked::Fine
+}
+
+// The place of a value that stands `from` places further in the order of the slices.
+fn at(f: Found, from: usize) -> Checked
+    requires { ⌜ Near f from ⌝ }
+    ensures { λ r. ⌜ r ≡ foundAt f from ⌝ }
+{
+    match f {
+        Found::At(i) => Checked::Bad(Refusal::NotFinite(from + i)),
+        Found::Clean => Checked::Fine,
+    }
+}
+
+// The solver proper, in an order that leaves the scratch +0.
+fn run(n: usize, a: &[f64], b: &[f64], x: &mut [f64], tol: f64, limit: usize, s: &mut [f64]) -> f64
+    requires { ⌜ Runs n (now a) (now b) (now x) limit (now s) ⌝ }
+    ensures { λ r. ⌜ Ran n (solved n (now (a .entry)) (now (b .entry)) (now (x .entry)) tol limit) (now (s .entry)) r (now (x .exit)) (now (s .exit)) ⌝ }
+{
+    fill(s, 0, 8 * n, 0.0);
+    copy_from(s, 0, x, 0, n);
+    let bnrm = begin(n, a, b, s);
+    let err = rounds(n, a, bnrm, tol, limit, s);
+    copy_from(x, 0, s, 0, n);
+    fill(s, 0, 8 * n, 0.0);
+    err
+}
+
+// The diagonal and the solver's first lines; the norm of the right side.
+fn begin(n: usize, a: &[f64], b: &[f64], s: &mut [f64]) -> f64
+    requires { ⌜ Loops n (now a) (now s) × (length (now b) ≡ n) ⌝ }
+    ensures { λ r. ⌜ Begun n (now (a .entry)) (now (b .entry)) (now (s .entry)) r (now (s .exit)) ⌝ }
+{
+    diagonal(n, a, s);
+    columns_of(a, n, n, s, 0, n);
+    copy_from(s, 2 * n, b, 0, n);
+    sub(s, n, 2 * n, n, n);
+    copy(s, 2 * n, n, n);
+    divide(s, n, n, 3 * n);
+    norm_2(b, 0, n)
+}
+
+fn diagonal(n: usize, a: &[f64], s: &mut [f64])
+    requires { ⌜ Loops n (now a) (now s) ⌝ }
+    ensures { λ _. ⌜ now (s .exit) ≡ put (now (s .entry)) (7 * n) (diagonalOf n (now (a .entry))) ⌝ }
+{
+    let out = 7 * n;
+    let mut at = 0usize;
+    for i in 0..n {
+        s[out + i] = a[at];
+        at += n + 1;
+    }
+}
+
+// solve_preconditioner: the vector at b over the diagonal, where that is not 0.
+fn divide(s: &mut [f64], n: usize, b: usize, out: usize)
+    requires { ⌜ Two (now s) out b (7 * n) n ⌝ }
+    ensures { λ _. ⌜ now (s .exit) ≡ put (now (s .entry)) out (dividedOf n (part (now (s .entry)) (7 * n) n) (part (now (s .entry)) b n)) ⌝ }
+{
+    let d = 7 * n;
+    for i in 0..n {
+        s[out + i] = over(s[b + i], s[d + i]);
+    }
+}
+
+fn over(b: f64, d: f64) -> f64
+    ensures { λ r. ⌜ r ≡ overOf b d ⌝ }
+{
+    if d == 0.0 { b } else { b / d }
+}
+
+fn turn(n: usize, a: &[f64], first: bool, bkden: f64, bnrm: f64, tol: f64, s: &mut [f64]) -> Turned
+    requires { ⌜ Loops n (now a) (now s) ⌝ }
+    ensures { λ r. ⌜ LoneTurn n (now (a .entry)) first bkden bnrm tol (now (s .entry)) r (now (s .exit)) ⌝ }
+{
+    let w = Seven {
+        x: 0,
+        r: n,
+        rr: 2 * n,
+        z: 3 * n,
+        zz: 4 * n,
+        p: 5 * n,
+        pp: 6 * n,
+    };
+    divide(s, n, 2 * n, 4 * n);
+    let bknum = direct(s, n, w, first, bkden);
+    columns_of(a, n, n, s, 5 * n, 3 * n);
+    rows_of(a, n, n, s, 6 * n, 4 * n);
+    advance(s, n, w, bknum);
+    divide(s, n, n, 3 * n);
+    let err = error(s, n, n, bnrm);
+    answered(err, bknum, tol)
+}
+
+// The rounds from 1 to below the limit; the error of the last one.
+fn rounds(n: usize, a: &[f64], bnrm: f64, tol: f64, limit: usize, s: &mut [f64]) -> f64
+    requires { ⌜ Loops n (now a) (now s) ⌝ }
+    ensures { λ r. ⌜ Looped n (now (a .entry)) bnrm tol limit (now (s .entry)) r (now (s .exit)) ⌝ }
+{
+    let mut err = 0.0;
+    let mut bkden = 0.0;
+    let mut iter = 1usize;
+    while iter < limit {
+        let t = turn(n, a, iter == 1, bkden, bnrm, tol, s);
+        let Turned::More(e, d) = t else {
+            return error_of(t);
+        };
+        err = e;
+        bkden = d;
+        iter += 1;
+    }
+    err
+}

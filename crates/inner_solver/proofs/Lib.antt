@@ -1,0 +1,5 @@
+mod Loops
+mod Joins
+mod Orders
+mod Calls
+mod Rounds
