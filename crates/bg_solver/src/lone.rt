@@ -14,8 +14,10 @@ use arrays::vectors::copy;
 use arrays::vectors::copy_from;
 use arrays::vectors::fill;
 use arrays::vectors::sub;
+use arrays::vectors::sweep;
 use matrices::products::columns_of;
 use matrices::products::rows_of;
+use numbers::bits::canonical;
 use refusal::Refusal;
 ghost use mathlib.Core.Path.{_≡_};
 ghost use Prim.Native.Nat.{_*_, _≤_};
@@ -35,7 +37,7 @@ pub enum Checked {
     Bad(Refusal),
 }
 
-// Total, for all input: what is answered and what the lent memory then holds is `solveOf`.
+// Total, for all input: what is answered and what the lent memory then holds is `solveOf`. A NaN that is handed back has its one pattern.
 pub fn solve(
     n: usize,
     a: &[f64],
@@ -51,7 +53,9 @@ pub fn solve(
     let Checked::Fine = c else {
         return refused(c);
     };
-    Answer::Solved(run(n, a, b, x, tol, limit, s))
+    let err = run(n, a, b, x, tol, limit, s);
+    sweep(x, 0, n);
+    Answer::Solved(canonical(err))
 }
 
 fn refused(c: Checked) -> Answer

@@ -24,4 +24,3 @@ returns-2 c = search needs
 
 pub at-spec : {M : Type 1} → statement M
 at-spec = tie.close (tie.spec enum-known-f add-t5 enum-told returns returns-2)
--- x

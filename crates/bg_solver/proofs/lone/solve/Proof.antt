@@ -1,4 +1,5 @@
 -- `bg_solver::lone::solve` meets its contract. Assumes nothing.
+use native.Mathlib.Omega.{arith}
 use borrow.Author.Needs.{needs}
 use Rattle.bg_solver.proofs.Checks.{passed}
 use Rattle.bg_solver.proofs.Outcomes.{refuses, solves}
@@ -37,6 +38,17 @@ run-requires c κs =
       rounds = p .settings .rounds;
     }
 
+sweep-requires : tie.Need-sweep-requires
+sweep-requires c κs =
+    let r = c .before .before .before .before .before in
+    let t = r .before .before .before in
+    let k = t .before .before .check in
+    let p = passed (k .result) (k .ensures) (t .enum-told .given .1) in
+    omega (arith, r .run .kept .1 .1 .1 .0, p .lengths .start)
+
+canonical-requires : tie.Need-canonical-requires
+canonical-requires c κs = tt
+
 same-length-2 : tie.Need-same-length-2
 same-length-2 c = search needs
 
@@ -45,10 +57,12 @@ same-length-3 c = search needs
 
 returns-2 : tie.Need-returns-2
 returns-2 c =
-    let r = c .before .before .before .before in
+    let w = c .before .before .before in
+    let r = w .before .before .before .before .before .before in
     let t = r .before .before .before in
     let k = t .before .before in
-    solves _ _ _ _ _ _ _ (k .check .result) (r .run .result) _ _ (k .check .ensures) (t .enum-told .given .1) (r .run .ensures)
+    rw (c .canonical .ensures, w .sweep .ensures)
+    (solves _ _ _ _ _ _ _ (k .check .result) (r .run .result) _ _ (k .check .ensures) (t .enum-told .given .1) (r .run .ensures))
 
 pub solve-spec : {M : Type 1} → statement M
 solve-spec =
@@ -61,6 +75,8 @@ solve-spec =
     same-length
     returns
     run-requires
+    sweep-requires
+    canonical-requires
     same-length-2
     same-length-3
     returns-2)
