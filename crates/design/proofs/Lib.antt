@@ -1,0 +1,3 @@
+pub mod Gram
+mod Grids
+mod Modes

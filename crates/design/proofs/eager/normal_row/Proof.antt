@@ -1,0 +1,100 @@
+-- `design::eager::normal_row` meets its contract. Assumes nothing.
+use Prim.Native.Nat.{_-_}
+use mathlib.Core.Bool.{true}
+use native.Mathlib.Omega.{arith}
+use Rattle.arrays.specs.Part.{part}
+use Rattle.arrays.proofs.Turns.{Made, made-none, made-more, made-all, kept}
+use Rattle.design.specs.Rows.{rowOf}
+use Rattle.design.proofs.eager.normal_row.Statement.{statement}
+use Rattle.design.proofs.eager.normal_row.Tie as tie
+
+abbrev Inv-loop : tie.InvT-loop
+Inv-loop m at gamma s₀ ce sc out p j₀ s j = Made s₀ out p (rowOf true gamma m at (part s₀ ce p) (part s₀ sc p)) s j
+
+abbrev μ-loop : tie.MeasureT-loop
+μ-loop m at gamma s₀ ce sc out p j₀ s j = p - j
+
+loop-holds : tie.Need-loop-holds Inv-loop μ-loop
+loop-holds c = made-none _ _ _ _
+
+add-s : tie.Need-add-s Inv-loop μ-loop
+add-s c = omega arith
+
+mul-s : tie.Need-mul-s Inv-loop μ-loop
+mul-s c = omega arith
+
+shared-slice-read-s : tie.Need-shared-slice-read-s Inv-loop μ-loop
+shared-slice-read-s c = omega arith
+
+add-s-2 : tie.Need-add-s-2 Inv-loop μ-loop
+add-s-2 c = omega arith
+
+mul-s-2 : tie.Need-mul-s-2 Inv-loop μ-loop
+mul-s-2 c = omega arith
+
+slice-read-s : tie.Need-slice-read-s Inv-loop μ-loop
+slice-read-s c = omega arith
+
+add-s-3 : tie.Need-add-s-3 Inv-loop μ-loop
+add-s-3 c = omega arith
+
+mul-s-3 : tie.Need-mul-s-3 Inv-loop μ-loop
+mul-s-3 c = omega arith
+
+slice-read-s-2 : tie.Need-slice-read-s-2 Inv-loop μ-loop
+slice-read-s-2 c = omega arith
+
+add-s-4 : tie.Need-add-s-4 Inv-loop μ-loop
+add-s-4 c = omega arith
+
+mul-s-4 : tie.Need-mul-s-4 Inv-loop μ-loop
+mul-s-4 c = omega arith
+
+slice-write-s : tie.Need-slice-write-s Inv-loop μ-loop
+slice-write-s c = omega arith
+
+add-j : tie.Need-add-j Inv-loop μ-loop
+add-j c = omega arith
+
+loop-less : tie.Need-loop-less Inv-loop μ-loop
+loop-less c = omega arith
+
+loop-again : tie.Need-loop-again Inv-loop μ-loop
+loop-again c =
+    let at = c .before .before .before .before in
+    let g = at .before .args in
+    let h = c .before .before .before .loop-test .taken in
+    let ce = kept (at .loop .inv) (g .ce) h (λ l k. absurd (omega (arith, at .before .pre .centres))) in
+    let sc = kept (at .loop .inv) (g .sc) h (λ l k. absurd (omega (arith, at .before .pre .scales))) in
+    made-more (at .loop .inv) _ h (rw (ce, sc))
+
+same-length : tie.Need-same-length Inv-loop μ-loop
+same-length c = omega arith
+
+returns : tie.Need-returns Inv-loop μ-loop
+returns c = made-all (c .before .loop .inv) (omega arith)
+
+pub normal-row-spec : {M : Type 1} → statement M
+normal-row-spec =
+    tie.close
+    (tie.spec
+    Inv-loop
+    μ-loop
+    loop-holds
+    add-s
+    mul-s
+    shared-slice-read-s
+    add-s-2
+    mul-s-2
+    slice-read-s
+    add-s-3
+    mul-s-3
+    slice-read-s-2
+    add-s-4
+    mul-s-4
+    slice-write-s
+    add-j
+    loop-less
+    loop-again
+    same-length
+    returns)

@@ -1,0 +1,4 @@
+pub mod Statistics
+pub mod Eager
+pub mod Rows
+pub mod Mode

@@ -1,0 +1,6 @@
+pub mod Mats
+pub mod Likes
+pub mod Carried
+pub mod Nest
+pub mod Whole
+pub mod Theorems

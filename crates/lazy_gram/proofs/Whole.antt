@@ -1,0 +1,211 @@
+-- The whole: from the nest's sums the Gram in its slot, its panels cleared, all else as it was. Assumes nothing.
+use mathlib.Core.Path.{_≡_, refl, sym, ap, _∙_, subst}
+use mathlib.Core.Bool.{Bool, true, false}
+use mathlib.Core.List.{List, [], _∷_, _++_}
+use Prim.Native.Nat.{ℕ, zero, suc, _+_, _-_, _*_, _≤_, _<_}
+use native.Mathlib.Nat.{one-mul, mul-add, mul-one, add-mul, mul-le-mul-right}
+use native.Mathlib.Omega.{arith}
+use borrow.Author.Tests.{eqb-true, eqb-false, eq-eqb, ne-eqb}
+use lib.Dec.{eqb}
+use lib.ListN.{length}
+use lib.Ieee.{Float, nan}
+use Rattle.numbers.specs.Ops.{_⊕_, _⊗_}
+use Rattle.arrays.specs.Part.{part, put, tab, length-put, getD-part, part-put-above, put-comm, put-none}
+use Rattle.arrays.specs.Sums.{_!_, plus0}
+use Rattle.arrays.specs.Vectors.{fillOf, length-fill}
+use Rattle.matrices.specs.Grid.{grid, length-grid}
+use Rattle.settings.specs.declared.Terms.{Terms}
+use Rattle.layout.specs.declared.Sizes.{Sizes}
+use Rattle.layout.specs.declared.Places.{Places}
+use Rattle.layout.specs.Slots.{Slot.CENTRE, Slot.SCALE, Slot.LEFT, Slot.RIGHT, Slot.GRAM, off, words, Has, vars, rest, start, then}
+use Rattle.lazy_gram.specs.Gram.{cellAt, entryOf, lazyGramOf, lazyGramStore, Lent}
+use Rattle.lazy_gram.specs.Panels.{mat, Like, same, low, cell, entry, Rows, Clear, nones, raised, raisedAt, right-of, turned, gramAt}
+use Rattle.lazy_gram.proofs.Mats.{row-le, ends, put-append, put-tab-tab, length-mat, mat-below, mat-in, mat-ext, mat-mat, mat-put}
+use Rattle.lazy_gram.proofs.Likes.{like-mat, like-clear}
+use Rattle.lazy_gram.proofs.Carried.{entry-like, entry-sym}
+
+-- ---- triangle, square and grid
+
+-- the lower triangle and the upper are the square
+square : (s : List Float) (ga p : ℕ) (f : ℕ → ℕ → Float) (n : ℕ) → n ≤ p
+    → mat (mat s ga p low f n) (ga + 1) (p + 1) (right-of p) (λ k b. f k (k + 1 + b)) n ≡ mat s ga p (same p) f n
+unfolding mat
+square s ga p f zero h = refl
+square s ga p f (suc n) h =
+    let U : ℕ → ℕ → Float = λ k b. f k (k + 1 + b) in
+    let S = mat s ga p low f n in
+    let q = ga + n * p in
+    let last = tab (U n) (right-of p n) in
+    let T = mat s ga p (same p) f n in
+    let hq : (a : ℕ) → a < n → ga + 1 + a * (p + 1) + right-of p a ≤ q = λ a m. omega (arith, row-le a n p m, mul-add a p 1, mul-one a) in
+    let e : ga + 1 + n * (p + 1) ≡ q + (n + 1) = omega (arith, mul-add n p 1, mul-one n) in
+    let e2 : n + 1 + right-of p n ≡ p = omega arith in
+    ap (λ (r : List Float). put r (ga + 1 + n * (p + 1)) last) (mat-put S (ga + 1) (p + 1) (right-of p) U q (tab (f n) (n + 1)) n hq)
+    ∙ ap (λ (r : List Float). put (put r q (tab (f n) (n + 1))) (ga + 1 + n * (p + 1)) last) (square s ga p f n (omega arith))
+    ∙ ap (λ (i : ℕ). put (put T q (tab (f n) (n + 1))) i last) e
+    ∙ put-tab-tab T q (n + 1) (f n) (right-of p n)
+    ∙ ap (λ (i : ℕ). put T q (tab (f n) i)) e2
+
+-- rows without a gap are a grid
+mat-grid : (s : List Float) (at p : ℕ) (f : ℕ → ℕ → Float) (n : ℕ) → mat s at p (same p) f n ≡ put s at (grid f n p)
+unfolding mat grid
+mat-grid s at p f zero = sym (put-none s at)
+mat-grid s at p f (suc n) =
+    ap (λ (r : List Float). put r (at + n * p) (tab (f n) p)) (mat-grid s at p f n)
+    ∙ ap (λ (i : ℕ). put (put s at (grid f n p)) (at + i) (tab (f n) p)) (sym (length-grid f n p))
+    ∙ put-append s at (grid f n p) (tab (f n) p)
+
+-- ---- the entries
+
+eqb-sym : (j k : ℕ) → eqb j k ≡ eqb k j
+eqb-sym j k = go (eqb k j) refl where
+  go : (b : Bool) → eqb k j ≡ b → eqb j k ≡ b
+  go true e = eq-eqb j k (sym (eqb-true k j e))
+  go false e = ne-eqb j k (λ q. eqb-false k j e (sym q))
+
+-- what is symmetric stays so
+pub raised-sym : (gg pp : Float) (f : ℕ → ℕ → Float) → ((j k : ℕ) → f j k ≡ f k j) → (j k : ℕ) → raised gg pp (eqb j k) (f j k) ≡ raised gg pp (eqb k j) (f k j)
+raised-sym gg pp f h j k = rw (eqb-sym j k, h j k)
+
+module _ {m : List Float} {n p rr : ℕ} {s₀ : List Float} {ce sc le ri cc ga : ℕ} (pre : Rows m n p rr s₀ ce sc le ri cc ga)
+    {s₁ : List Float} (e₁ : s₁ ≡ mat s₀ ga p low nones p) where
+  pub gram-rows : Rows m n p rr s₁ ce sc le ri cc ga
+  gram-rows =
+      let l : length s₁ ≡ length s₀ = ap length e₁ ∙ length-mat s₀ ga p low nones p in
+      record {
+        matrix = pre .matrix;
+        rows = pre .rows;
+        some = pre .some;
+        any = pre .any;
+        centres = pre .centres;
+        scales = pre .scales;
+        left = pre .left;
+        right = pre .right;
+        gram = omega arith;
+        fits = omega arith;
+      }
+
+  pub gram-clear : Clear s₁ p ga
+  gram-clear j k hj hk =
+      ap (λ (t : List Float). t ! (ga + j * p + k)) e₁
+      ∙ mat-in s₀ ga p low nones p j k (λ i l. omega arith) (omega (arith, pre, row-le j p p hj)) hj hk
+
+  gram-cells : (i b : ℕ) → b < p → cell m p s₁ ce sc i b ≡ cellAt p m (part s₀ ce p) (part s₀ sc p) i b
+  unfolding cell
+  gram-cells i b l =
+      let below : (at : ℕ) → at + p ≤ ga → s₁ ! (at + b) ≡ part s₀ at p ! b =
+      λ at h. ap (λ (t : List Float). t ! (at + b)) e₁ ∙ mat-below s₀ ga p low nones p (at + b) (omega arith) ∙ sym (getD-part s₀ at p b nan l) in
+      rw (below ce (omega (arith, pre)), below sc (omega (arith, pre)))
+
+  pub gram-done : (gg pp : Float) (s₂ s₃ s₄ : List Float)
+      → Like le (ri + rr * cc) s₂ (mat s₁ ga p low (entry (cell m p s₁ ce sc) n) p)
+      → s₃ ≡ mat s₂ ga p low (λ j. raisedAt s₂ (ga + j * p) gg pp j) p
+      → s₄ ≡ mat s₃ (ga + 1) (p + 1) (right-of p) (turned s₃ ga p) p
+      → Like le (ri + rr * cc) s₄ (put s₀ ga (gramAt n p gg pp m s₀ ce sc))
+  unfolding entry entryOf gramAt
+  gram-done gg pp s₂ s₃ s₄ L₁ e₃ e₄ =
+      let en = ri + rr * cc in
+      let D = cellAt p m (part s₀ ce p) (part s₀ sc p) in
+      let c₁ = cell m p s₁ ce sc in
+      let S = entry D n in
+      let F : ℕ → ℕ → Float = λ j i. raised gg pp (eqb j i) (S j i) in
+      let M = mat s₀ ga p low S p in
+      let N = mat s₀ ga p low F p in
+      let U : ℕ → ℕ → Float = λ j b. F j (j + 1 + b) in
+      let fits : (a : ℕ) → a < p → ga + a * p + low a ≤ length s₀ = λ a l. omega (arith, pre, row-le a p p l) in
+      let m₁ : mat s₁ ga p low (entry c₁ n) p ≡ M =
+      mat-ext s₁ ga p low low (entry c₁ n) S p (λ a l. refl)
+      (λ a b ha hb. entry-like c₁ D n a b (λ i. gram-cells i a (omega arith)) (λ i. gram-cells i b (omega arith)))
+      ∙ ap (λ (t : List Float). mat t ga p low S p) e₁ ∙ mat-mat s₀ ga p low nones S p (λ a l. omega arith) in
+      let L : Like le en s₂ M = subst (λ (t : List Float). Like le en s₂ t) m₁ L₁ in
+      let len : length s₂ ≡ length s₀ = L .len ∙ length-mat s₀ ga p low S p in
+      let t₃ : mat s₂ ga p low (λ j. raisedAt s₂ (ga + j * p) gg pp j) p ≡ mat s₂ ga p low F p =
+      mat-ext s₂ ga p low low (λ j. raisedAt s₂ (ga + j * p) gg pp j) F p (λ a l. refl)
+      (λ a b ha hb.
+      ap (raised gg pp (eqb a b))
+      (L .high (ga + a * p + b) (omega (arith, pre)) ∙ mat-in s₀ ga p low S p a b (λ i l. omega arith) (fits a ha) ha hb)) in
+      let L₃ : Like le en s₃ N =
+      subst (λ (t : List Float). Like le en t N) (sym (e₃ ∙ t₃))
+      (subst (λ (t : List Float). Like le en (mat s₂ ga p low F p) t) (mat-mat s₀ ga p low S F p (λ a l. omega arith))
+      (like-mat le en s₂ M ga p low F p (λ a l. rw len (fits a l)) L)) in
+      let len₃ : length s₃ ≡ length s₀ = L₃ .len ∙ length-mat s₀ ga p low F p in
+      let t₄ : mat s₃ (ga + 1) (p + 1) (right-of p) (turned s₃ ga p) p ≡ mat s₃ (ga + 1) (p + 1) (right-of p) U p =
+      mat-ext s₃ (ga + 1) (p + 1) (right-of p) (right-of p) (turned s₃ ga p) U p (λ a l. refl)
+      (λ j b hj hb.
+      let e : ga + p + j * (p + 1) + b * p ≡ ga + (j + 1 + b) * p + j = omega (arith, mul-add j p 1, mul-one j, add-mul (j + 1) b p, add-mul j 1 p, one-mul p) in
+      let hk : j + 1 + b < p = omega arith in
+      L₃ .high (ga + p + j * (p + 1) + b * p) (omega (arith, pre)) ∙ ap (λ (q : ℕ). N ! q) e
+      ∙ mat-in s₀ ga p low F p (j + 1 + b) j (λ i l. omega arith) (fits (j + 1 + b) hk) hk (omega arith)
+      ∙ raised-sym gg pp S (λ a i. entry-sym D n a i) (j + 1 + b) j) in
+      let L₄ : Like le en (mat s₃ (ga + 1) (p + 1) (right-of p) U p) (mat N (ga + 1) (p + 1) (right-of p) U p) =
+      like-mat le en s₃ N (ga + 1) (p + 1) (right-of p) U p (λ a l. omega (arith, pre, row-le a p p l, mul-add a p 1, mul-one a)) L₃ in
+      subst (λ (v : List Float). Like le en v (put s₀ ga (grid F p p))) (sym (e₄ ∙ t₄))
+      (subst (λ (v : List Float). Like le en (mat s₃ (ga + 1) (p + 1) (right-of p) U p) v) (square s₀ ga p F p (omega arith) ∙ mat-grid s₀ ga p F p) L₄)
+
+-- ---- in the layout
+
+both : (s : List Float) (a k : ℕ) → put (put s a (fillOf plus0 k)) (a + k) (fillOf plus0 k) ≡ put s a (fillOf plus0 (k + k))
+unfolding fillOf
+both s a k = put-tab-tab s a k (λ i. plus0) k
+
+pub length-lazy-gram : (n p : ℕ) (t : Terms) (m ce sc : List Float) → length (lazyGramOf n p t m ce sc) ≡ p * p
+unfolding lazyGramOf
+length-lazy-gram n p t m ce sc = length-grid _ p p
+
+module _ {sh : Sizes} {l : Places} {m s₀ : List Float} (pre : Lent sh l m s₀) where
+  pub lent-rows : Rows m (sh .n) (sh .p) (sh .pr) s₀ (l .centre) (l .scale) (l .left) (l .right) (sh .pc) (l .gram)
+  lent-rows =
+      let laid = pre .room .laid in
+      let one : 1 * sh .pc ≤ sh .pr * sh .pc = mul-le-mul-right (sh .pc) (pre .panel-rows) in
+      record {
+        matrix = pre .matrix;
+        rows = pre .rows;
+        some = pre .panel-columns;
+        any = pre .panel-rows;
+        centres = omega arith;
+        scales = omega arith;
+        left = omega arith;
+        right = omega arith;
+        gram = omega (arith, pre .room);
+        fits = omega (arith, pre .room, one-mul (sh .pc));
+      }
+
+  pub lent-order : l .left ≤ l .sums
+  lent-order =
+      let laid = pre .room .laid in
+      omega (arith, laid .at-left, laid .at-sums)
+
+  pub lent-fill : {a b : ℕ} {s₄ u : List Float} → Like a b s₄ u → length u ≡ length s₀ → l .left + (l .sums - l .left) ≤ length s₄
+  lent-fill L e =
+      let laid = pre .room .laid in
+      let n = L .len ∙ e in
+      omega (arith, laid .at-left, laid .at-sums, pre .room .room)
+
+  pub lent-done : (t : Terms) (s₄ s₅ : List Float)
+      → Like (l .left) (l .right + sh .pr * sh .pc) s₄
+      (put s₀ (l .gram) (gramAt (sh .n) (sh .p) (t .gamma ⊗ t .gamma) (t .padding ⊗ t .padding) m s₀ (l .centre) (l .scale)))
+      → s₅ ≡ put s₄ (l .left) (fillOf plus0 (l .sums - l .left))
+      → Has sh (rest sh s₀) (lazyGramStore sh t m (vars sh s₀)) s₅
+  unfolding lazyGramStore lazyGramOf gramAt words
+  lent-done t s₄ s₅ L e =
+      let laid = pre .room .laid in
+      let P = sh .pr * sh .pc in
+      let G : List Float → List Float → List Float = λ ce sc. lazyGramOf (sh .n) (sh .p) t m ce sc in
+      let s₁ = put s₀ (off sh LEFT) (fillOf plus0 P) in
+      let s₂ = put s₁ (off sh RIGHT) (fillOf plus0 P) in
+      let kept : (a : ℕ) → a + sh .p ≤ off sh LEFT → part s₂ a (sh .p) ≡ part s₀ a (sh .p) =
+      λ a h. part-put-above s₁ (off sh RIGHT) (fillOf plus0 P) a (sh .p) (omega arith) ∙ part-put-above s₀ (off sh LEFT) (fillOf plus0 P) a (sh .p) h in
+      let Z = fillOf plus0 (l .sums - l .left) in
+      let G₀ = G (part s₀ (l .centre) (sh .p)) (part s₀ (l .scale) (sh .p)) in
+      let z : l .left + length Z ≡ l .right + P = rw length-fill (omega (arith, laid .at-left, laid .at-right, laid .at-sums)) in
+      let n₄ : length s₄ ≡ length s₀ = L .len ∙ length-put s₀ (l .gram) G₀ in
+      let f : l .right + P ≤ length s₄ = omega (arith, laid .at-right, pre .room .room) in
+      let g : l .left + length Z ≤ l .gram = omega (arith, laid .at-right, laid .at-gram) in
+      let k : l .sums - l .left ≡ P + P = omega (arith, laid .at-left, laid .at-sums) in
+      let q : s₅ ≡ put (put s₀ (l .left) Z) (l .gram) G₀ =
+      e ∙ like-clear (l .left) (l .right + P) s₄ (put s₀ (l .gram) G₀) Z z f L ∙ sym (put-comm s₀ (l .left) Z (l .gram) G₀ g) in
+      let h₁ = then sh (start sh s₀ (pre .room .room)) LEFT (λ u. fillOf plus0 P) (length-fill plus0 P) {m′ = s₁} refl in
+      let h₂ = then sh h₁ RIGHT (λ u. fillOf plus0 P) (length-fill plus0 P) {m′ = s₂} refl in
+      let r = rw (k, laid .at-left, laid .at-gram, laid .at-centre, laid .at-scale) at q in
+      then sh h₂ GRAM (λ u. G (u CENTRE) (u SCALE)) (length-lazy-gram (sh .n) (sh .p) t m _ _)
+      (r ∙ rw (← both s₀ (off sh LEFT) P, ← kept (32 * sh .p) (omega arith), ← kept (33 * sh .p) (omega arith)))

@@ -1,0 +1,50 @@
+-- `lazy_gram::fill_gram` meets its contract. Assumes nothing.
+use mathlib.Core.Path.{_∙_}
+use native.Mathlib.Omega.{arith}
+use Rattle.lazy_gram.proofs.Whole.{gram-rows, gram-clear, gram-done}
+use Rattle.lazy_gram.proofs.fill_gram.Statement.{statement}
+use Rattle.lazy_gram.proofs.fill_gram.Tie as tie
+
+clear-low-requires : tie.Need-clear-low-requires
+clear-low-requires c κs = omega arith
+
+rows-requires : tie.Need-rows-requires
+rows-requires c κs =
+    let st = c .before .before .before .before .before .before .before in
+    let e = c .before .before .before .clear-low .ensures in
+    (gram-rows (st .pre) e, gram-clear (st .pre) e)
+
+augment-requires : tie.Need-augment-requires
+augment-requires c κs = omega arith
+
+mirror-requires : tie.Need-mirror-requires
+mirror-requires c κs = omega arith
+
+mul-sweep : tie.Need-mul-sweep
+mul-sweep c = omega arith
+
+sweep-requires : tie.Need-sweep-requires
+sweep-requires c κs = omega arith
+
+same-length : tie.Need-same-length
+same-length c = omega arith
+
+returns : tie.Need-returns
+returns c =
+    let st = c .before .before .before .before .before .before .before .before .before .before .before .before .before .before .before .before .before .before .before .before .before .before in
+    let mirrored = c .before .before .before .before .before .before .mirror .ensures in
+    gram-done (st .pre) (c .before .before .before .before .before .before .before .before .before .before .before .before .before .before .before .before .before .before .clear-low .ensures) (st .args .gg) (st .args .pp) _ _ _ (c .before .before .before .before .before .before .before .before .before .before .before .before .before .before .rows .ensures) (c .before .before .before .before .before .before .before .before .before .before .augment .ensures)
+    (c .before .before .sweep .ensures ∙ mirrored)
+
+pub fill-gram-spec : {M : Type 1} → statement M
+fill-gram-spec =
+    tie.close
+    (tie.spec
+    clear-low-requires
+    rows-requires
+    augment-requires
+    mirror-requires
+    mul-sweep
+    sweep-requires
+    same-length
+    returns)

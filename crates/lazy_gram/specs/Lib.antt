@@ -1,0 +1,2 @@
+pub mod Gram
+pub mod Panels

@@ -1,0 +1,96 @@
+-- `lazy_normalization::rows` meets its contract. Assumes nothing.
+use Prim.Native.Nat.{_-_, _*_}
+use mathlib.Core.Path.{_≡_}
+use native.Mathlib.Omega.{arith}
+use Rattle.numbers.specs.Ops.{_⊗_}
+use Rattle.arrays.proofs.Turns.{Made, made-none}
+use Rattle.matrices.specs.Products.{row-room, next-row}
+use Rattle.lazy_normalization.specs.Lazy.{lazyRows}
+use Rattle.lazy_normalization.proofs.Products.{rowSum, rows-more, rows-all}
+use Rattle.lazy_normalization.proofs.rows.Statement.{statement}
+use Rattle.lazy_normalization.proofs.rows.Tie as tie
+
+abbrev Inv-loop : tie.InvT-loop
+Inv-loop m n p t s₀ l v out at₀ i₀ s at i = (at ≡ i * p) × Made s₀ out n (λ k. rowSum m s₀ p l v k ⊗ t .gamma) s i
+
+abbrev μ-loop : tie.MeasureT-loop
+μ-loop m n p t s₀ l v out at₀ i₀ s at i = n - i
+
+loop-holds : tie.Need-loop-holds Inv-loop μ-loop
+loop-holds c = (omega arith, made-none _ _ _ _)
+
+row-sum-requires : tie.Need-row-sum-requires Inv-loop μ-loop
+row-sum-requires c κs =
+    let turn = c .before in
+    omega (arith, row-room _ _ (turn .before .before .before .before .args .p) (turn .loop-test .taken))
+
+add-s : tie.Need-add-s Inv-loop μ-loop
+add-s c = omega arith
+
+mul-s : tie.Need-mul-s Inv-loop μ-loop
+mul-s c = omega arith
+
+slice-write-s : tie.Need-slice-write-s Inv-loop μ-loop
+slice-write-s c = omega arith
+
+add-at : tie.Need-add-at Inv-loop μ-loop
+add-at c =
+    let turn = c .before .before .before in
+    omega (arith, row-room _ _ (turn .before .before .before .before .args .p) (turn .loop-test .taken))
+
+add-i : tie.Need-add-i Inv-loop μ-loop
+add-i c = omega arith
+
+loop-less : tie.Need-loop-less Inv-loop μ-loop
+loop-less c = omega arith
+
+loop-again : tie.Need-loop-again Inv-loop μ-loop
+loop-again c =
+    let turn = c .before .before .before in
+    let at = turn .before in
+    let start = at .before .before .before in
+    let g = start .args in
+    let n = next-row (at .loop .i) (g .p) in
+    (omega arith, rows-more (start .pre) (g .t) (at .loop .inv .1) (turn .loop-test .taken) (c .before .row-sum .ensures))
+
+add-times : tie.Need-add-times Inv-loop μ-loop
+add-times c = omega arith
+
+times-requires : tie.Need-times-requires Inv-loop μ-loop
+times-requires c κs =
+    let start = c .before .before .before .before .before in
+    record {
+      room = omega arith;
+      first = omega arith;
+      clear = λ l k. absurd (omega (arith, start .pre .off-vector (omega arith)));
+    }
+
+same-length : tie.Need-same-length Inv-loop μ-loop
+same-length c = omega arith
+
+returns : tie.Need-returns Inv-loop μ-loop
+unfolding lazyRows
+returns c =
+    let at = c .before .before .before .before .before in
+    let start = at .before .before .before in
+    rows-all (start .pre) (start .args .t) (at .loop .inv .1) _ (omega arith) (c .before .before .times .ensures)
+
+pub rows-spec : {M : Type 1} → statement M
+rows-spec =
+    tie.close
+    (tie.spec
+    Inv-loop
+    μ-loop
+    loop-holds
+    row-sum-requires
+    add-s
+    mul-s
+    slice-write-s
+    add-at
+    add-i
+    loop-less
+    loop-again
+    add-times
+    times-requires
+    same-length
+    returns)
