@@ -3,10 +3,33 @@ ghost use mathlib.Core.Path.{_≡_};
 ghost use Prim.Native.Nat.{_+_, _≤_};
 ghost use lib.ListN.{length, take, drop};
 ghost use Rattle.words.specs.Words.{digitOf, endsWord, hexFrom, wordAt};
+ghost use Rattle.words.specs.Runs.{RunRead};
 
 pub enum Word {
     Number(u64),
     Bad,
+}
+
+pub enum Parsed {
+    Whole,
+    // the place of the first word that is bad, from 0
+    BadAt(usize),
+}
+
+// The first n words of s to the front of out, up to the first one that is bad.
+pub fn read_words(s: &[u8], out: &mut [u64], n: usize) -> Parsed
+    requires { ⌜ n ≤ length (now out) ⌝ }
+    ensures { λ r. ⌜ RunRead (now (s .entry)) n (now (out .entry)) r (now (out .exit)) ⌝ }
+{
+    let mut at = 0usize;
+    for i in 0..n {
+        let Word::Number(x) = read_word(s, at) else {
+            return Parsed::BadAt(i);
+        };
+        out[i] = x;
+        at += 17;
+    }
+    Parsed::Whole
 }
 
 // Bad where s ends before the word does.

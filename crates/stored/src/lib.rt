@@ -1,0 +1,72 @@
+// Stored answers, from standard input: words, of which the first is the number of records, and a record is its length in words and
+// the words; the first of these is its kind. The words of a record go to a buffer that the caller lends.
+pub mod bits;
+pub mod marks;
+pub mod report;
+
+use words::Parsed;
+use words::Word;
+use words::read_word;
+use words::read_words;
+ghost use mathlib.Core.Path.{_≡_};
+ghost use Prim.Native.Nat.{_≤_, min};
+ghost use lib.ListN.{length};
+ghost use Rattle.stored.specs.Stored.{Within};
+
+pub enum Record {
+    // how many words it has; they stand at the front of the buffer
+    Whole(usize),
+    // the place of the first word that is bad, or missing; word 0 is the length, which is bad too where the buffer is shorter
+    DamagedAt(u64),
+}
+
+pub fn next_word() -> Word {
+    let mut bytes = [0u8; 17];
+    let n = io::read_full(0, &mut bytes);
+    read_word(&bytes[..n], 0)
+}
+
+pub fn next_record(out: &mut [u64]) -> Record
+    ensures { λ r. ⌜ Within r (length (now (out .exit))) ⌝ }
+{
+    let Word::Number(n) = next_word() else {
+        return Record::DamagedAt(0);
+    };
+    let n = n as usize;
+    if n > out.len() {
+        return Record::DamagedAt(0);
+    }
+    match fill(out, n) {
+        Parsed::Whole => Record::Whole(n),
+        Parsed::BadAt(i) => Record::DamagedAt(std::num::wrapping_add_u64(i as u64, 1)),
+    }
+}
+
+// The next n words, as many at a time as `some` has room for.
+fn fill(out: &mut [u64], n: usize) -> Parsed
+    requires { ⌜ n ≤ length (now out) ⌝ }
+{
+    let mut i = 0usize;
+    while i < n {
+        let k = at_most(n - i, 240);
+        if let Parsed::BadAt(j) = some(&mut out[i..], k) {
+            return Parsed::BadAt(std::num::wrapping_add_usize(i, j));
+        }
+        i += k;
+    }
+    Parsed::Whole
+}
+
+fn at_most(a: usize, b: usize) -> usize
+    ensures { λ r. ⌜ r ≡ min a b ⌝ }
+{
+    if a < b { a } else { b }
+}
+
+fn some(out: &mut [u64], k: usize) -> Parsed
+    requires { ⌜ (k ≤ length (now out)) × (k ≤ 240) ⌝ }
+{
+    let mut bytes = io::buffer();
+    let n = io::read_full(0, &mut bytes[..17 * k]);
+    read_words(&bytes[..n], out, k)
+}
