@@ -128,12 +128,17 @@ module _ {A : Type 0} where
   unfolding put
   put-none s a = refl
 
+  -- a put that goes on where another ended
+  pub put-append : (s : List A) (a : ℕ) (xs ys : List A) → put (put s a xs) (a + length xs) ys ≡ put s a (xs ++ ys)
+  unfolding put
+  put-append s a [] ys = rw add-zero
+  put-append s a (x ∷ xs) ys =
+      let e : a + suc (length xs) ≡ suc a + length xs = omega arith in
+      rw e (put-append (set s a x) (suc a) xs ys)
+
   pub put-snoc : (s : List A) (a : ℕ) (xs : List A) (x : A) → set (put s a xs) (a + length xs) x ≡ put s a (xs ++ (x ∷ []))
   unfolding put
-  put-snoc s a [] x = rw add-zero
-  put-snoc s a (y ∷ ys) x =
-      let e : a + suc (length ys) ≡ suc a + length ys = omega arith in
-      rw e (put-snoc (set s a y) (suc a) ys x)
+  put-snoc s a xs x = put-append s a xs (x ∷ [])
 
   -- ---- a loop that writes f 0, f 1, .. from index a
 

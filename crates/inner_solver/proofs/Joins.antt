@@ -6,18 +6,11 @@ use native.Mathlib.Nat.{add-zero}
 use native.Mathlib.Omega.{arith}
 use lib.ListN.{length}
 use lib.Ieee.{Float, nan}
-use Rattle.arrays.specs.Part.{part, put, tab, tab-ext, length-tab, getD-part, part-put-above, part-put-same, part-put-apart, apart-of}
+use Rattle.arrays.specs.Part.{part, put, put-append, tab, tab-ext, length-tab, getD-part, part-put-above, part-put-same, part-put-apart, apart-of}
 use Rattle.arrays.specs.Sums.{_!_, fold-ext}
 use Rattle.matrices.specs.Products.{rowsOf, length-rows}
 use Rattle.layout.specs.declared.Places.{Places}
 use Rattle.inner_solver.specs.Inner.{lowSolved, highSolved, solvedOf, lowTimes, highTimes, timesOf, Reads, Solves, Times}
-
-put-append : (s : List Float) (a : ℕ) (xs ys : List Float) → put (put s a xs) (a + length xs) ys ≡ put s a (xs ++ ys)
-unfolding put
-put-append s a [] ys = rw add-zero
-put-append s a (x ∷ xs) ys =
-    let e : a + suc (length xs) ≡ suc a + length xs = omega arith in
-    rw e (put-append _ (suc a) xs ys)
 
 put-halves : (s : List Float) (a p : ℕ) (f : ℕ → Float) (ys : List Float) → put (put s a (tab f p)) (a + p) ys ≡ put s a (tab f p ++ ys)
 put-halves s a p f ys = rw (length-tab f p) at (put-append s a (tab f p) ys)

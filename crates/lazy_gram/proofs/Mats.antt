@@ -11,7 +11,7 @@ use lib.ListN.{length, set}
 use lib.Seq.{ext-getD}
 use lib.Ieee.{Float, nan}
 use Rattle.arrays.specs.Part.{put, tab, length-put, length-tab, part-put-same, getD-part, getD-tab, getD-put-above, getD-put-below}
-use Rattle.arrays.specs.Part.{put-comm, put-put-same, put-none, tab-ext}
+use Rattle.arrays.specs.Part.{put-append, put-comm, put-put-same, put-none, tab-ext}
 use Rattle.arrays.specs.Sums.{_!_}
 use Rattle.lazy_gram.specs.Panels.{mat}
 
@@ -30,14 +30,6 @@ getD-put-tab s a f n i l h =
     sym (getD-part (put s a (tab f n)) a n i nan h)
     ∙ ap (λ (r : List Float). r ! i) (part-put-same s a (tab f n) n (length-tab f n) l)
     ∙ getD-tab f n i nan h
-
--- two writes that follow each other
-pub put-append : (s : List Float) (a : ℕ) (xs ys : List Float) → put (put s a xs) (a + length xs) ys ≡ put s a (xs ++ ys)
-unfolding put
-put-append s a [] ys = rw add-zero
-put-append s a (x ∷ xs) ys =
-    let e : a + suc (length xs) ≡ suc a + length xs = omega arith in
-    rw e (put-append (set s a x) (suc a) xs ys)
 
 tab-add : (f : ℕ → Float) (k n : ℕ) → tab f k ++ tab (λ b. f (k + b)) n ≡ tab f (k + n)
 unfolding tab

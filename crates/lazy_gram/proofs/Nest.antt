@@ -8,7 +8,8 @@ use native.Mathlib.Omega.{arith}
 use lib.ListN.{length}
 use lib.Ieee.{Float}
 use Rattle.arrays.specs.Sums.{_!_, fold-none}
-use Rattle.lazy_gram.specs.Panels.{mat, Like, least, same, tri, low, wid, cell, panelAt, carry, adv, entry, next, whole, Lie, Pairs, Rows, Block, Clear}
+use Rattle.lazy_gram.specs.Panels.{mat, Like, least, same, tri, low, wid, cell, panelAt, carry, entry}
+use Rattle.lazy_gram.specs.Panels.{next, advanced, whole, advancedLow, Lie, Pairs, Rows, Block, Clear}
 use Rattle.lazy_gram.proofs.Mats.{row-le, ends, length-mat, mat-below, mat-beyond, mat-in, mat-gap, mat-self, mat-ext, mat-none}
 use Rattle.lazy_gram.proofs.Mats.{mat-mat, mat-append, mat-wide, striped-none}
 use Rattle.lazy_gram.proofs.Likes.{like-refl, like-trans, like-mat, like-panel, like-wide}
@@ -22,7 +23,7 @@ rows-room j n p h = rw (add-mul j n p) at (mul-le-mul-right p h)
 
 module _ {m : List Float} {p row nr : ℕ} {s₀ : List Float} {ce sc le ri cc ga jb nj : ℕ} (pre : Pairs m p row nr s₀ ce sc le ri cc ga jb nj) where
   pub pairs-start : Like ri (ri + nr * cc) s₀
-      (mat s₀ (ga + jb * cc * p) p (same (0 * cc)) (next (cell m p s₀ ce sc) s₀ (ga + jb * cc * p) p row nr (jb * cc)) nj)
+      (advanced m p row nr s₀ ce sc ga (jb * cc) (same (0 * cc)) nj)
   pairs-start =
       let en = ri + nr * cc in
       let E = next (cell m p s₀ ce sc) s₀ (ga + jb * cc * p) p row nr (jb * cc) in
@@ -47,11 +48,11 @@ module _ {m : List Float} {p row nr : ℕ} {s₀ : List Float} {ce sc le ri cc g
 
   pub pairs-turn : (kb : ℕ) (s s₁ s₂ : List Float) → kb < jb
       → Like ri (ri + nr * cc) s
-      (mat s₀ (ga + jb * cc * p) p (same (kb * cc)) (next (cell m p s₀ ce sc) s₀ (ga + jb * cc * p) p row nr (jb * cc)) nj)
+      (advanced m p row nr s₀ ce sc ga (jb * cc) (same (kb * cc)) nj)
       → s₁ ≡ mat s ri cc (same cc) (panelAt m p s ce sc row (kb * cc)) nr
       → s₂ ≡ mat s₁ (ga + jb * cc * p + kb * cc) p (wid cc (jb * cc - kb * cc)) (carry s₁ (ga + jb * cc * p + kb * cc) p le ri cc nr) nj
       → Like ri (ri + nr * cc) s₂
-      (mat s₀ (ga + jb * cc * p) p (same ((kb + 1) * cc)) (next (cell m p s₀ ce sc) s₀ (ga + jb * cc * p) p row nr (jb * cc)) nj)
+      (advanced m p row nr s₀ ce sc ga (jb * cc) (same ((kb + 1) * cc)) nj)
   pairs-turn kb s s₁ s₂ h L e₁ e₂ =
       let lie = pre .lie in
       let j = jb * cc in
@@ -142,7 +143,7 @@ module _ {m : List Float} {p row nr : ℕ} {s₀ : List Float} {ce sc le ri cc g
       }
 
   pub column-block : (s₂ : List Float)
-      → Like ri (ri + nr * cc) s₂ (mat s₁ (ga + jb * cc * p) p (same (jb * cc)) (next (cell m p s₁ ce sc) s₁ (ga + jb * cc * p) p row nr (jb * cc)) nj)
+      → Like ri (ri + nr * cc) s₂ (advanced m p row nr s₁ ce sc ga (jb * cc) (same (jb * cc)) nj)
       → Block s₂ (ga + jb * cc * p + jb * cc) p nj nj 0 le le cc nr
   column-block s₂ L =
       let hr = rows-room (jb * cc) nj p (omega arith) in
@@ -158,9 +159,9 @@ module _ {m : List Float} {p row nr : ℕ} {s₀ : List Float} {ce sc le ri cc g
       }
 
   pub column-turn : (s₂ s₃ : List Float)
-      → Like ri (ri + nr * cc) s₂ (mat s₁ (ga + jb * cc * p) p (same (jb * cc)) (next (cell m p s₁ ce sc) s₁ (ga + jb * cc * p) p row nr (jb * cc)) nj)
+      → Like ri (ri + nr * cc) s₂ (advanced m p row nr s₁ ce sc ga (jb * cc) (same (jb * cc)) nj)
       → s₃ ≡ mat s₂ (ga + jb * cc * p + jb * cc) p (wid nj 0) (carry s₂ (ga + jb * cc * p + jb * cc) p le le cc nr) nj
-      → Like le (ri + nr * cc) s₃ (mat s₀ (ga + jb * cc * p) p (tri (jb * cc)) (next (cell m p s₀ ce sc) s₀ (ga + jb * cc * p) p row nr (jb * cc)) nj)
+      → Like le (ri + nr * cc) s₃ (advanced m p row nr s₀ ce sc ga (jb * cc) (tri (jb * cc)) nj)
   column-turn s₂ s₃ LR e₃ =
       let j = jb * cc in
       let g = ga + j * p in
@@ -209,10 +210,10 @@ module _ {m : List Float} {p row nr : ℕ} {s₀ : List Float} {ce sc le ri cc g
 
 module _ {m : List Float} {p row nr : ℕ} {s₀ : List Float} {ce sc le ri cc ga : ℕ} (lie : Lie m p row nr s₀ ce sc le ri cc ga) where
   pub block-turn : (jb j : ℕ) (s s′ : List Float) → j ≡ jb * cc → j < p
-      → Like le (ri + nr * cc) s (mat s₀ ga p low (whole (cell m p s₀ ce sc) s₀ ga p row nr) (least p j))
+      → Like le (ri + nr * cc) s (advancedLow m p row nr s₀ ce sc ga (least p j))
       → Like le (ri + nr * cc) s′
-      (mat s (ga + jb * cc * p) p (tri (jb * cc)) (next (cell m p s ce sc) s (ga + jb * cc * p) p row nr (jb * cc)) (least (p - jb * cc) cc))
-      → Like le (ri + nr * cc) s′ (mat s₀ ga p low (whole (cell m p s₀ ce sc) s₀ ga p row nr) (least p (j + cc)))
+      (advanced m p row nr s ce sc ga (jb * cc) (tri (jb * cc)) (least (p - jb * cc) cc))
+      → Like le (ri + nr * cc) s′ (advancedLow m p row nr s₀ ce sc ga (least p (j + cc)))
   block-turn jb j s s′ ej hj L₀ L₁ =
       let c = cell m p s₀ ce sc in
       let c₁ = cell m p s ce sc in
@@ -228,7 +229,7 @@ module _ {m : List Float} {p row nr : ℕ} {s₀ : List Float} {ce sc le ri cc g
       let mn : least p (j + cc) ≡ j + nj = omega arith in
       let L : Like le en s M = subst (λ (k : ℕ). Like le en s (mat s₀ ga p low W k)) ml L₀ in
       let L₂ : Like le en s′ (mat s g p (tri j) E nj) =
-      subst (λ (k : ℕ). Like le en s′ (mat s (ga + k * p) p (tri k) (next c₁ s (ga + k * p) p row nr k) (least (p - k) cc))) (sym ej) L₁ in
+      subst (λ (k : ℕ). Like le en s′ (advanced m p row nr s ce sc ga k (tri k) (least (p - k) cc))) (sym ej) L₁ in
       let room : j * p + nj * p ≤ p * p = rows-room j nj p (omega arith) in
       let len : length s ≡ length s₀ = L .len ∙ length-mat s₀ ga p low W j in
       let lows : (q : ℕ) → q < le → s ! q ≡ s₀ ! q = λ q l. L .low q l ∙ mat-below s₀ ga p low W j q (omega (arith, lie)) in
@@ -254,7 +255,7 @@ module _ {m : List Float} {p row nr : ℕ} {s₀ : List Float} {ce sc le ri cc g
 
   -- the panels of the last block of rows may be shorter than those before
   pub rows-turn : (en : ℕ) (s s′ : List Float) → ri + nr * cc ≤ en → en ≤ ga → Like le en s (mat s₀ ga p low (entry (cell m p s₀ ce sc) row) p)
-      → Like le (ri + nr * cc) s′ (mat s ga p low (whole (cell m p s ce sc) s ga p row nr) p)
+      → Like le (ri + nr * cc) s′ (advancedLow m p row nr s ce sc ga p)
       → Like le en s′ (mat s₀ ga p low (entry (cell m p s₀ ce sc) (row + nr)) p)
   rows-turn en s s′ he hg L L₁ =
       let c = cell m p s₀ ce sc in
@@ -291,7 +292,8 @@ pub rows-start : (p : ℕ) (s : List Float) (le en ga : ℕ) (c : ℕ → ℕ �
 unfolding entry
 rows-start p s le en ga c h z =
     subst (λ (t : List Float). Like le en s t)
-    (sym (mat-self s ga p low (entry c 0) p (ends ga p p low p (length s) (λ a l. omega arith) (omega arith)) (λ j k hj hk. fold-none _ _ _ ∙ sym (z j k hj hk))))
+    (sym
+    (mat-self s ga p low (entry c 0) p (ends ga p p low p (length s) (λ a l. omega arith) (omega arith)) (λ j k hj hk. fold-none _ _ _ ∙ sym (z j k hj hk))))
     (like-refl le en s)
 
 pub rows-lie : {m : List Float} {n p rr : ℕ} {s₀ : List Float} {ce sc le ri cc ga : ℕ} → Rows m n p rr s₀ ce sc le ri cc ga

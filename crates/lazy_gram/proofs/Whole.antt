@@ -1,7 +1,7 @@
 -- The whole: from the nest's sums the Gram in its slot, its panels cleared, all else as it was. Assumes nothing.
 use mathlib.Core.Path.{_≡_, refl, sym, ap, _∙_, subst}
 use mathlib.Core.Bool.{Bool, true, false}
-use mathlib.Core.List.{List, [], _∷_, _++_}
+use mathlib.Core.List.{List}
 use Prim.Native.Nat.{ℕ, zero, suc, _+_, _-_, _*_, _≤_, _<_}
 use native.Mathlib.Nat.{one-mul, mul-add, mul-one, add-mul, mul-le-mul-right}
 use native.Mathlib.Omega.{arith}
@@ -9,8 +9,8 @@ use borrow.Author.Tests.{eqb-true, eqb-false, eq-eqb, ne-eqb}
 use lib.Dec.{eqb}
 use lib.ListN.{length}
 use lib.Ieee.{Float, nan}
-use Rattle.numbers.specs.Ops.{_⊕_, _⊗_}
-use Rattle.arrays.specs.Part.{part, put, tab, length-put, getD-part, part-put-above, put-comm, put-none}
+use Rattle.numbers.specs.Ops.{_⊗_}
+use Rattle.arrays.specs.Part.{put-append, part, put, tab, length-put, getD-part, part-put-above, put-comm, put-none}
 use Rattle.arrays.specs.Sums.{_!_, plus0}
 use Rattle.arrays.specs.Vectors.{fillOf, length-fill}
 use Rattle.matrices.specs.Grid.{grid, length-grid}
@@ -20,7 +20,7 @@ use Rattle.layout.specs.declared.Places.{Places}
 use Rattle.layout.specs.Slots.{Slot.CENTRE, Slot.SCALE, Slot.LEFT, Slot.RIGHT, Slot.GRAM, off, words, Has, vars, rest, start, then}
 use Rattle.lazy_gram.specs.Gram.{cellAt, entryOf, lazyGramOf, lazyGramStore, Lent}
 use Rattle.lazy_gram.specs.Panels.{mat, Like, same, low, cell, entry, Rows, Clear, nones, raised, raisedAt, right-of, turned, gramAt}
-use Rattle.lazy_gram.proofs.Mats.{row-le, ends, put-append, put-tab-tab, length-mat, mat-below, mat-in, mat-ext, mat-mat, mat-put}
+use Rattle.lazy_gram.proofs.Mats.{row-le, put-tab-tab, length-mat, mat-below, mat-in, mat-ext, mat-mat, mat-put}
 use Rattle.lazy_gram.proofs.Likes.{like-mat, like-clear}
 use Rattle.lazy_gram.proofs.Carried.{entry-like, entry-sym}
 
@@ -132,7 +132,8 @@ module _ {m : List Float} {n p rr : ℕ} {s₀ : List Float} {ce sc le ri cc ga 
       let t₄ : mat s₃ (ga + 1) (p + 1) (right-of p) (turned s₃ ga p) p ≡ mat s₃ (ga + 1) (p + 1) (right-of p) U p =
       mat-ext s₃ (ga + 1) (p + 1) (right-of p) (right-of p) (turned s₃ ga p) U p (λ a l. refl)
       (λ j b hj hb.
-      let e : ga + p + j * (p + 1) + b * p ≡ ga + (j + 1 + b) * p + j = omega (arith, mul-add j p 1, mul-one j, add-mul (j + 1) b p, add-mul j 1 p, one-mul p) in
+      let e : ga + p + j * (p + 1) + b * p ≡ ga + (j + 1 + b) * p + j =
+      omega (arith, mul-add j p 1, mul-one j, add-mul (j + 1) b p, add-mul j 1 p, one-mul p) in
       let hk : j + 1 + b < p = omega arith in
       L₃ .high (ga + p + j * (p + 1) + b * p) (omega (arith, pre)) ∙ ap (λ (q : ℕ). N ! q) e
       ∙ mat-in s₀ ga p low F p (j + 1 + b) j (λ i l. omega arith) (fits (j + 1 + b) hk) hk (omega arith)

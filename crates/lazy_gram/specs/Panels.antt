@@ -113,9 +113,16 @@ adv c row t n j k = products t (λ i. c (row + i) j) (λ i. c (row + i) k) n
 abbrev pub next : (ℕ → ℕ → Float) → List Float → ℕ → ℕ → ℕ → ℕ → ℕ → ℕ → ℕ → Float
 next c s g p row nr j a b = adv c row (s ! (g + a * p + b)) nr (j + a) b
 
--- every sum of the Gram's rows from 0, advanced by nr rows
+-- s with n of these rows advanced, w a sums of row j + a
+abbrev pub advanced : List Float → ℕ → ℕ → ℕ → List Float → ℕ → ℕ → ℕ → ℕ → (ℕ → ℕ) → ℕ → List Float
+advanced m p row nr s ce sc ga j w n = mat s (ga + j * p) p w (next (cell m p s ce sc) s (ga + j * p) p row nr j) n
+
+-- the same of the Gram's rows from 0, and s with n rows of the lower triangle advanced
 abbrev pub whole : (ℕ → ℕ → Float) → List Float → ℕ → ℕ → ℕ → ℕ → ℕ → ℕ → Float
 whole c s ga p row nr j k = adv c row (s ! (ga + j * p + k)) nr j k
+
+abbrev pub advancedLow : List Float → ℕ → ℕ → ℕ → List Float → ℕ → ℕ → ℕ → ℕ → List Float
+advancedLow m p row nr s ce sc ga n = mat s ga p low (whole (cell m p s ce sc) s ga p row nr) n
 
 -- where things lie: centres and scales, the left panel, the right panel, the Gram
 pub record Lie (m : List Float) (p row nr : ℕ) (s : List Float) (ce sc le ri cc ga : ℕ) : Type 0 where

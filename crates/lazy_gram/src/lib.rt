@@ -13,7 +13,7 @@ ghost use Rattle.arrays.specs.Part.{put, tab};
 ghost use Rattle.layout.specs.Slots.{Has, vars, rest};
 ghost use Rattle.lazy_gram.specs.Gram.{lazyGramStore, Lent};
 ghost use Rattle.lazy_gram.specs.Panels.{least, normAt, FillRow, mat, same, panelAt, Fill, wid, rankAt, Rank, carry, Block};
-ghost use Rattle.lazy_gram.specs.Panels.{Like, cell, entry, next, Pairs, tri, low, whole, Lie, Column, Rows, Clear, nones};
+ghost use Rattle.lazy_gram.specs.Panels.{Like, cell, entry, advanced, Pairs, tri, low, advancedLow, Lie, Column, Rows, Clear, nones};
 ghost use Rattle.lazy_gram.specs.Panels.{raisedAt, across, right-of, turned, MirrorRow, gramAt};
 
 fn least_of(a: usize, b: usize) -> usize
@@ -122,7 +122,7 @@ fn pairs(
     nj: usize,
 )
     requires { ⌜ Pairs (now m) p row nr (now s) ce sc le ri cc ga jb nj ⌝ }
-    ensures { λ _. ⌜ Like ri (ri + nr * cc) (now (s .exit)) (mat (now (s .entry)) (ga + jb * cc * p) p (same (jb * cc)) (next (cell (now (m .entry)) p (now (s .entry)) ce sc) (now (s .entry)) (ga + jb * cc * p) p row nr (jb * cc)) nj) ⌝ }
+    ensures { λ _. ⌜ Like ri (ri + nr * cc) (now (s .exit)) (advanced (now (m .entry)) p row nr (now (s .entry)) ce sc ga (jb * cc) (same (jb * cc)) nj) ⌝ }
 {
     let j = jb * cc;
     let g = ga + j * p;
@@ -151,7 +151,7 @@ fn column(
     jb: usize,
 )
     requires { ⌜ Column (now m) p row nr (now s) ce sc le ri cc ga jb ⌝ }
-    ensures { λ _. ⌜ Like le (ri + nr * cc) (now (s .exit)) (mat (now (s .entry)) (ga + jb * cc * p) p (tri (jb * cc)) (next (cell (now (m .entry)) p (now (s .entry)) ce sc) (now (s .entry)) (ga + jb * cc * p) p row nr (jb * cc)) (least (p - jb * cc) cc)) ⌝ }
+    ensures { λ _. ⌜ Like le (ri + nr * cc) (now (s .exit)) (advanced (now (m .entry)) p row nr (now (s .entry)) ce sc ga (jb * cc) (tri (jb * cc)) (least (p - jb * cc) cc)) ⌝ }
 {
     let j = jb * cc;
     let nj = least_of(p - j, cc);
@@ -175,7 +175,7 @@ fn row_block(
     ga: usize,
 )
     requires { ⌜ Lie (now m) p row nr (now s) ce sc le ri cc ga ⌝ }
-    ensures { λ _. ⌜ Like le (ri + nr * cc) (now (s .exit)) (mat (now (s .entry)) ga p low (whole (cell (now (m .entry)) p (now (s .entry)) ce sc) (now (s .entry)) ga p row nr) p) ⌝ }
+    ensures { λ _. ⌜ Like le (ri + nr * cc) (now (s .exit)) (advancedLow (now (m .entry)) p row nr (now (s .entry)) ce sc ga p) ⌝ }
 {
     let mut jb = 0usize;
     let mut j = 0usize;

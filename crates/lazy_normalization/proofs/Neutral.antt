@@ -1,6 +1,6 @@
 -- What rounding, +0 and 1 leave as it is: x less +0 is x, also for -0, and so is x times 1. Assumes nothing.
 use mathlib.Core.Path.{_≡_, refl, sym, ap, _∙_}
-use mathlib.Core.Bool.{Bool, true, false, _&&_}
+use mathlib.Core.Bool.{Bool, true, false, _&&_, cond}
 use Prim.Native.Nat.{ℕ, zero, suc, _+_, _-_, _*_, _%_, _^_, _≤_, _<_}
 use native.Mathlib.Nat.{zero-mul, sub-zero, mul-one, one-mul, add-zero, mul-pos, mul-assoc, mul-right-comm, mul-lt-mul-of-pos-right, lt-of-mul-lt-mul-right}
 use native.Mathlib.Nat.{not-le-of-lt, lt-of-not-le}
@@ -10,7 +10,7 @@ use lib.IntN.{ℤ, pos, negsuc}
 use lib.Dec.{T, ltb, leb, eqb, ltb→lt, leb→le, lit<}
 use lib.Pow.{pow-add, pow-pos, pow-lt}
 use borrow.Author.Tests.{le-ltb}
-use lib.Ieee.{Float, nan, inf, fin, binary64, up, down, round, sub, mul, fits, ofBits}
+use lib.Ieee.{Float, nan, inf, fin, binary64, up, down, round, sum, sub, mul, fits, ofBits}
 use lib.Ieee.Bits.{ofBits-toBits}
 use lib.Ieee.Exact.{HasValue, round-exact}
 use lib.Ieee.Fits.{down-pos, and-l, and-r, round-fits}
@@ -56,19 +56,41 @@ round-own s (suc m) e f =
     exact s (suc m) e (j .0) f (ltb→lt _ _ (and-r A B (and-l (A && B) C (and-l (A && B && C) D f)))) (ltb→lt _ _ (and-r (A && B && C) D f))
     (mul-assoc (suc m) (up e) (2 ^ 1074) ∙ ap (λ (k : ℕ). suc m * k) (j .1) ∙ sym (mul-assoc (suc m) (2 ^ j .0) (down e)))
 
+-- ---- x less +0, for a finite x a sum with -0
+
+sum-zero : (s : Bool) (a c : ℕ) → sum binary64 s a true 0 c ≡ round binary64 s a c
+unfolding sum
+sum-zero true a c = ap (λ (k : ℕ). round binary64 true k c) (add-zero a)
+sum-zero false a c =
+    ap (λ (b : Bool). cond b (round binary64 true (0 - a) c) (round binary64 false (a - 0) c)) (le-ltb a 0 (omega arith))
+    ∙ ap (λ (k : ℕ). round binary64 false k c) (sub-zero a)
+
+less-is : (s : Bool) (m : ℕ) (e : ℤ) → fin s m e ⊖ plus0 ≡ sum binary64 s (m * up e * 1) true (0 * down e) (down e * 1)
+unfolding sub ofBits
+less-is s m e = refl
+
+finite-less : (s : Bool) (m : ℕ) (e : ℤ) → T (fits binary64 (fin s m e)) → fin s m e ⊖ plus0 ≡ fin s m e
+finite-less s m e f = rw (less-is s m e, mul-one (m * up e), zero-mul (down e), mul-one (down e), sum-zero s (m * up e) (down e)) (round-own s m e f)
+
 pub less-zero : (x : Float) → T (fits binary64 x) → x ⊖ plus0 ≡ x
 unfolding sub ofBits
 less-zero nan f = refl
 less-zero (inf s) f = refl
-less-zero (fin true m e) f = rw (zero-mul (down e), add-zero, mul-one (m * up e), mul-one (down e)) (round-own true m e f)
-less-zero (fin false m e) f =
-    rw (zero-mul (down e), le-ltb (m * up e * 1) 0 (omega arith), sub-zero, mul-one (m * up e), mul-one (down e))
-    (round-own false m e f)
+less-zero (fin s m e) f = finite-less s m e f
+
+-- ---- x times 1
+
+times-is : (s : Bool) (m : ℕ) (e : ℤ) → fin s m e ⊗ one ≡ round binary64 s (m * up e * 1) (down e * 1)
+unfolding mul ofBits
+times-is true m e = refl
+times-is false m e = refl
+
+finite-times : (s : Bool) (m : ℕ) (e : ℤ) → T (fits binary64 (fin s m e)) → fin s m e ⊗ one ≡ fin s m e
+finite-times s m e f = rw (times-is s m e, mul-one (m * up e), mul-one (down e)) (round-own s m e f)
 
 pub times-one : (x : Float) → T (fits binary64 x) → x ⊗ one ≡ x
 unfolding mul ofBits
 times-one nan f = refl
 times-one (inf true) f = refl
 times-one (inf false) f = refl
-times-one (fin true m e) f = rw (mul-one (m * up e), mul-one (down e)) (round-own true m e f)
-times-one (fin false m e) f = rw (mul-one (m * up e), mul-one (down e)) (round-own false m e f)
+times-one (fin s m e) f = finite-times s m e f

@@ -7,7 +7,7 @@ use native.Mathlib.Omega.{arith}
 use lib.ListN.{length, set}
 use lib.Ieee.{Float, nan}
 use Rattle.numbers.specs.Ops.{_⊕_, _⊗_}
-use Rattle.arrays.specs.Part.{part, put, tab, tab-ext, getD-tab, getD-part, length-tab, part-put-same}
+use Rattle.arrays.specs.Part.{part, put, put-append, tab, tab-ext, getD-tab, getD-part, length-tab, part-put-same}
 use Rattle.arrays.specs.Sums.{_!_, products, plus0, fold-none, fold-turn}
 use Rattle.arrays.specs.Vectors.{mapOf, zipOf, fillOf}
 use Rattle.arrays.proofs.Turns.{Made, made-of, made-more, made-all, made-again, part-kept}
@@ -15,14 +15,6 @@ use Rattle.layout.specs.declared.Places.{Places}
 use Rattle.settings.specs.declared.Terms.{Terms}
 use Rattle.lazy_normalization.specs.Lazy.{Reads, lazyColumns}
 use Rattle.lazy_normalization.proofs.Entries.{rowOf}
-
--- a put that goes on where another ended
-put-append : (s : List Float) (a : ℕ) (xs ys : List Float) → put (put s a xs) (a + length xs) ys ≡ put s a (xs ++ ys)
-unfolding put
-put-append s a [] ys = rw add-zero
-put-append s a (x ∷ xs) ys =
-    let e : a + suc (length xs) ≡ suc a + length xs = omega arith in
-    rw e (put-append (set s a x) (suc a) xs ys)
 
 -- row i, column j of the design with the columns' numbers that lie in s
 abbrev pub design : List Float → List Float → ℕ → Places → ℕ → ℕ → Float

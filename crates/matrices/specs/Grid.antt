@@ -9,7 +9,7 @@ use native.Mathlib.Omega.{arith}
 use lib.ListN.{length, getD, set, length-append, List·getD-append}
 use lib.Seq.{getD-append-add}
 use lib.Ieee.{Float}
-use Rattle.arrays.specs.Part.{put, tab, length-tab, getD-tab, tab-ext}
+use Rattle.arrays.specs.Part.{put, put-append, tab, length-tab, getD-tab, tab-ext}
 
 -- f 0 0, f 0 1, .., f 1 0, ..: `rows` rows of `cols` entries
 unfoldable pub grid : (ℕ → ℕ → Float) → ℕ → ℕ → List Float
@@ -63,13 +63,6 @@ grid-append f a (suc b) cols =
     ∙ ap (λ (n : ℕ). grid f n cols) (sym (add-suc a b))
 
 -- ---- a loop that writes the rows one after another from index a
-
-pub put-append : (s : List Float) (a : ℕ) (xs ys : List Float) → put (put s a xs) (a + length xs) ys ≡ put s a (xs ++ ys)
-unfolding put
-put-append s a [] ys = rw add-zero
-put-append s a (x ∷ xs) ys =
-    let e : a + suc (length xs) ≡ suc a + length xs = omega arith in
-    rw e (put-append (set s a x) (suc a) xs ys)
 
 pub put-grid-none : (s : List Float) (a : ℕ) (f : ℕ → ℕ → Float) (cols : ℕ) → s ≡ put s a (grid f 0 cols)
 unfolding put grid

@@ -31,10 +31,14 @@ same-length c = omega arith
 
 returns : tie.Need-returns
 returns c =
-    let st = c .before .before .before .before .before .before .before .before .before .before .before .before .before .before .before .before .before .before .before .before .before .before in
-    let mirrored = c .before .before .before .before .before .before .mirror .ensures in
-    gram-done (st .pre) (c .before .before .before .before .before .before .before .before .before .before .before .before .before .before .before .before .before .before .clear-low .ensures) (st .args .gg) (st .args .pp) _ _ _ (c .before .before .before .before .before .before .before .before .before .before .before .before .before .before .rows .ensures) (c .before .before .before .before .before .before .before .before .before .before .augment .ensures)
-    (c .before .before .sweep .ensures ∙ mirrored)
+    let swept = c .before .before in
+    let mirrored = swept .before .before .before .before in
+    let raised = mirrored .before .before .before .before in
+    let summed = raised .before .before .before .before in
+    let cleared = summed .before .before .before .before in
+    let st = cleared .before .before .before .before in
+    gram-done (st .pre) (cleared .clear-low .ensures) (st .args .gg) (st .args .pp) _ _ _ (summed .rows .ensures) (raised .augment .ensures)
+    (swept .sweep .ensures ∙ mirrored .mirror .ensures)
 
 pub fill-gram-spec : {M : Type 1} → statement M
 fill-gram-spec =

@@ -15,7 +15,8 @@ sub-fill c =
 
 fill-requires : tie.Need-fill-requires
 fill-requires c κs =
-    lent-fill (c .before .before .before .before .before .before .before .before .before .before .pre) (c .before .before .before .before .fill-gram .ensures) (length-put _ _ _)
+    let called = c .before .before .before .before in
+    lent-fill (called .before .before .before .before .before .before .pre) (called .fill-gram .ensures) (length-put _ _ _)
 
 same-length : tie.Need-same-length
 same-length c = omega arith

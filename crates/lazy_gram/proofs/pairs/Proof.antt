@@ -3,7 +3,7 @@ use mathlib.Core.Path.{_≡_, refl, _∙_}
 use Prim.Native.Nat.{_+_, _-_, _*_, _≤_}
 use native.Mathlib.Omega.{arith}
 use lib.ListN.{length}
-use Rattle.lazy_gram.specs.Panels.{mat, Like, same, next, cell}
+use Rattle.lazy_gram.specs.Panels.{Like, same, advanced}
 use Rattle.lazy_gram.proofs.Mats.{row-le, length-mat}
 use Rattle.lazy_gram.proofs.Nest.{rows-room, pairs-start, pairs-block, pairs-turn}
 use Rattle.lazy_gram.proofs.pairs.Statement.{statement}
@@ -13,7 +13,7 @@ abbrev Inv-loop : tie.InvT-loop
 Inv-loop m p row nr s₀ ce sc le ri cc ga jb nj j g kb₀ s kb =
     (kb ≤ jb) × (length s ≡ length s₀)
     × Like ri (ri + nr * cc) s
-    (mat s₀ (ga + jb * cc * p) p (same (kb * cc)) (next (cell m p s₀ ce sc) s₀ (ga + jb * cc * p) p row nr (jb * cc)) nj)
+    (advanced m p row nr s₀ ce sc ga (jb * cc) (same (kb * cc)) nj)
 
 abbrev μ-loop : tie.MeasureT-loop
 μ-loop m p row nr s₀ ce sc le ri cc ga jb nj j g kb₀ s kb = jb - kb
@@ -84,7 +84,8 @@ sub-block c =
 block-requires : tie.Need-block-requires Inv-loop μ-loop
 block-requires c κs =
     let at = c .before .before .before .before .before .before in
-    pairs-block (at .before .before .before .pre) (at .loop .kb) (at .loop .s) _ (omega arith) (at .loop .inv .1) (c .before .before .before .fill-panel .ensures)
+    pairs-block (at .before .before .before .pre) (at .loop .kb) (at .loop .s) _ (omega arith) (at .loop .inv .1)
+    (c .before .before .before .fill-panel .ensures)
 
 add-kb : tie.Need-add-kb Inv-loop μ-loop
 add-kb c = omega arith

@@ -5,7 +5,7 @@ use native.Mathlib.Nat.{zero-mul, suc-mul}
 use native.Mathlib.Numerals.{add-one}
 use native.Mathlib.Omega.{arith}
 use lib.ListN.{length}
-use Rattle.lazy_gram.specs.Panels.{mat, Like, least, low, whole, cell}
+use Rattle.lazy_gram.specs.Panels.{Like, least, advancedLow}
 use Rattle.lazy_gram.proofs.Mats.{length-mat}
 use Rattle.lazy_gram.proofs.Nest.{block-start, block-turn}
 use Rattle.lazy_gram.proofs.row_block.Statement.{statement}
@@ -14,7 +14,7 @@ use Rattle.lazy_gram.proofs.row_block.Tie as tie
 abbrev Inv-loop : tie.InvT-loop
 Inv-loop m p row nr s₀ ce sc le ri cc ga jb₀ j₀ s jb j =
     (j ≡ jb * cc) × (jb ≤ j) × (length s ≡ length s₀)
-    × Like le (ri + nr * cc) s (mat s₀ ga p low (whole (cell m p s₀ ce sc) s₀ ga p row nr) (least p j))
+    × Like le (ri + nr * cc) s (advancedLow m p row nr s₀ ce sc ga (least p j))
 
 abbrev μ-loop : tie.MeasureT-loop
 μ-loop m p row nr s₀ ce sc le ri cc ga jb₀ j₀ s jb j = p - j
@@ -56,7 +56,8 @@ loop-again c =
     let at = c .before .before .before .before .before in
     let st = at .before .before .before in
     let e =
-    block-turn (st .pre) (at .loop .jb) (at .loop .j) (at .loop .s) _ (at .loop .inv .0) (omega arith) (at .loop .inv .3) (c .before .before .column .ensures) in
+    block-turn (st .pre) (at .loop .jb) (at .loop .j) (at .loop .s) _ (at .loop .inv .0) (omega arith) (at .loop .inv .3)
+    (c .before .before .column .ensures) in
     let q : at .loop .j + st .args .cc ≡ (at .loop .jb + 1) * st .args .cc = rw (at .loop .inv .0, add-one, suc-mul) in
     (q, omega arith, e .len ∙ length-mat _ _ _ _ _ _, e)
 

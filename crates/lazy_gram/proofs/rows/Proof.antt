@@ -37,7 +37,9 @@ add-row : tie.Need-add-row Inv-loop μ-loop
 add-row c = omega arith
 
 loop-less : tie.Need-loop-less Inv-loop μ-loop
-loop-less c = omega (arith, c .before .before .before .before .least-of .ensures, c .before .before .before .before .before .before .before .before .before .pre .0)
+loop-less c =
+    let called = c .before .before .before .before in
+    omega (arith, called .least-of .ensures, called .before .before .before .before .before .pre .0)
 
 loop-again : tie.Need-loop-again Inv-loop μ-loop
 loop-again c =

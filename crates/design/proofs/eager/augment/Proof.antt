@@ -9,8 +9,8 @@ use native.Mathlib.Omega.{arith}
 use borrow.Author.Tests.{lt-ltb, le-ltb, eq-eqb, ne-eqb}
 use lib.Dec.{eqb}
 use lib.Ieee.{Float}
-use Rattle.arrays.specs.Part.{part, put}
-use Rattle.matrices.specs.Grid.{grid, grid-ext, grid-append, length-grid, put-append}
+use Rattle.arrays.specs.Part.{put-append, part, put}
+use Rattle.matrices.specs.Grid.{grid, grid-ext, grid-append, length-grid}
 use Rattle.settings.specs.declared.Terms.{Terms}
 use Rattle.layout.specs.declared.Sizes.{Sizes}
 use Rattle.layout.specs.declared.Places.{Places}

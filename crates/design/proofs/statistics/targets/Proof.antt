@@ -6,10 +6,9 @@ use native.Mathlib.Omega.{arith}
 use lib.ListN.{length, length-append}
 use lib.Ieee.{Float}
 use Rattle.numbers.specs.Ops.{_⊖_}
-use Rattle.arrays.specs.Part.{part, put, length-part, part-put-same, put-put-same}
+use Rattle.arrays.specs.Part.{put-append, part, put, length-part, part-put-same, put-put-same}
 use Rattle.arrays.specs.Sums.{plus0, meanOf}
 use Rattle.arrays.specs.Vectors.{fillOf, mapOf, length-fill, length-map}
-use Rattle.matrices.specs.Grid.{put-append}
 use Rattle.layout.specs.Slots.{Slot.Y, Has, vars, rest, start, then, words}
 use Rattle.layout.specs.declared.Sizes.{Sizes}
 use Rattle.layout.specs.declared.Places.{Places}
