@@ -81,7 +81,7 @@ fn has_marks(s: &[f64], zeros: usize) -> bool
     same(s, bits)
 }
 
-fn words() -> [u64; 4400]
+pub fn words() -> [u64; 4400]
     ensures { λ r. ⌜ 4400 ≡ length r ⌝ }
 {
     [0; 4400]

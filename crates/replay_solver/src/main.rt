@@ -15,7 +15,6 @@ ghost use mathlib.Core.Path.{_≡_};
 ghost use Prim.Native.Nat.{_+_, _*_, _≤_};
 ghost use lib.ListN.{length};
 
-// No input has 2^64 records, so that none of these counts wraps.
 struct Tally {
     agree: u64,
     kept: u64,

@@ -1,5 +1,5 @@
-// Stored answers, from standard input: words, of which the first is the number of records, and a record is its length in words and
-// the words; the first of these is its kind. The words of a record go to a buffer that the caller lends.
+// Records from standard input: words, of which the first is the number of records, and a record is its length in words and the words. These
+// go to a buffer that the caller lends.
 pub mod bits;
 pub mod marks;
 pub mod report;
@@ -42,7 +42,7 @@ pub fn next_record(out: &mut [u64]) -> Record
     }
 }
 
-// The next n words, as many at a time as `some` has room for.
+// The next n words, as many at a time as `some` has room for. A place is below n, so that no sum here and above wraps.
 fn fill(out: &mut [u64], n: usize) -> Parsed
     requires { ⌜ n ≤ length (now out) ⌝ }
 {

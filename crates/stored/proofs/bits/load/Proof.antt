@@ -1,13 +1,12 @@
 -- `stored::bits::load` meets its contract. The loop's invariant: the first i numbers are those of the first i words. Assumes nothing.
 use mathlib.Core.Path.{_≡_, refl, sym, _∙_}
-use mathlib.Core.List.{List, [], _∷_, _++_, map, map-append}
+use mathlib.Core.List.{List, map-append}
 use Prim.Native.Nat.{ℕ, _+_, _-_, _≤_, _<_}
 use native.Mathlib.Numerals.{add-one}
 use native.Mathlib.Omega.{arith}
 use lib.Ieee.{Float, binary64, ofBits}
 use lib.ListN.{length, getD, set, take, length-set}
 use lib.Seq.{take-suc, take-suc-set, take-all}
-use denote.Ref.{now}
 use Rattle.stored.specs.Stored.{numbersOf}
 use Rattle.stored.proofs.bits.load.Statement.{statement}
 use Rattle.stored.proofs.bits.load.Tie as tie
