@@ -69,3 +69,32 @@ pub fn lazy(x: &Matrix, y: &Vec<f64>, normalise: bool, l2: f64, w: &Vec<f64>, v:
         deviations,
     })
 }
+
+/// The steps of `eager` and `lazy` one by one, for measure.rs.
+pub fn statistics(x: &Matrix) -> (Vec<f64>, Vec<f64>) {
+    Net::normalization_stats(x).unwrap()
+}
+
+/// `rescale_x` less its statistics, then `augment_x_and_y`.
+pub fn scaled(x: &Matrix, y: &Vec<f64>, means: &[f64], deviations: &[f64], l2: f64) -> Matrix {
+    let mut scaled = x.clone();
+    scaled.scale_mut(means, deviations, 0);
+    Net::augment_x_and_y(&scaled, y, l2).0
+}
+
+pub struct Lazy<'a>(LazyDesign<'a, f64, Matrix>);
+
+impl<'a> Lazy<'a> {
+    pub fn new(x: &'a Matrix, means: Vec<f64>, deviations: Vec<f64>, l2: f64) -> Self {
+        Lazy(LazyDesign::new(x, Some(means), Some(deviations)).with_l2(l2))
+    }
+    pub fn gram(&self) -> Matrix {
+        self.0.gram()
+    }
+    pub fn matvec(&self, w: &Vec<f64>) -> Vec<f64> {
+        self.0.matvec(w)
+    }
+    pub fn transposed(&self, v: &Vec<f64>) -> Vec<f64> {
+        self.0.transpose_matvec(v)
+    }
+}

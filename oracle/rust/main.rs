@@ -3,6 +3,7 @@
 
 mod answers;
 mod counts;
+mod measure;
 mod problems;
 mod vectors;
 mod words;
@@ -55,7 +56,8 @@ const USE: &str = "oracle answer PROBLEMS OUT   problems with their answers, as 
 oracle show PROBLEMS         one line for each answer
 oracle verify STORED         are these the answers?
 oracle root|ln WORDS OUT     bits of root or logarithm, one word a line
-oracle facts                 how this std sums";
+oracle facts                 how this std sums
+oracle measure PIECE N P COUNT CALLS   a piece of the Rust again and again, for tools/speed";
 
 fn main() {
     let args: Vec<String> = std::env::args().skip(1).collect();
@@ -67,6 +69,7 @@ fn main() {
         ["root", input, out] => words::map(input, out, f64::sqrt),
         ["ln", input, out] => words::map(input, out, num_traits::Float::ln),
         ["facts"] => Ok(facts()),
+        ["measure", what, n, p, count, calls] => measure::run(what, [n, p, count, calls]),
         _ => Err(USE.to_string()),
     };
     match done {

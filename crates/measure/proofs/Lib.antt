@@ -1,0 +1,2 @@
+mod Rooms
+mod Truth

@@ -1,0 +1,32 @@
+-- `measure::ready` meets its contract: lengths do not change. Assumes nothing.
+use native.Mathlib.Omega.{arith}
+use Rattle.measure.proofs.Rooms.{as-long, matrix-given}
+use Rattle.measure.proofs.ready.Statement.{statement}
+use Rattle.measure.proofs.ready.Tie as tie
+
+statistics-requires : tie.Need-statistics-requires
+statistics-requires c κs = matrix-given (c .before .before .before .before .pre .held)
+
+reciprocals-requires : tie.Need-reciprocals-requires
+reciprocals-requires c κs = as-long (c .before .before .before .before .before .before .before .before .pre .held .room) (omega arith)
+
+copy-from-requires : tie.Need-copy-from-requires
+copy-from-requires c κs =
+    let pre = c .before .before .before .before .before .before .before .before .before .before .before .before .pre in
+    (omega (arith, pre .held .room .laid .at-w, pre .held .room .room), omega (arith, pre .fits .vectors))
+
+copy-from-requires-2 : tie.Need-copy-from-requires-2
+copy-from-requires-2 c κs =
+    let pre = c .before .before .before .before .before .before .before .before .before .before .before .before .before .before .before .before .pre in
+    (omega (arith, pre .held .room .laid .at-nu, pre .held .room .room), omega (arith, pre .fits .vectors, pre .held .all))
+
+same-length : tie.Need-same-length
+same-length c = omega arith
+
+returns : tie.Need-returns
+returns c = tt
+
+pub ready-spec : {M : Type 1} → statement M
+ready-spec =
+    tie.close
+    (tie.spec statistics-requires reciprocals-requires copy-from-requires copy-from-requires-2 same-length returns)

@@ -1,0 +1,161 @@
+// driver PIECE N P COUNT CALLS: our side of a comparison. The numbers, the sum and the line that it prints are those of the oracle's `measure` (oracle/rust/measure.rs).
+// It makes CALLS calls of COUNT repetitions each, clears the scratch before each call, and prints a sum over the last result's bits and the nanoseconds of the best call.
+#include <float.h>
+#include <inttypes.h>
+#include <stdint.h>
+#include <stdio.h>
+#include <stdlib.h>
+#include <string.h>
+#include <time.h>
+
+// Slices pass as pointer and length. An answer is the result's place in the scratch; 0 says that a size was wrong.
+extern size_t measure_round(const double *gram, size_t gram_len, const double *given, size_t given_len, size_t p, double tol, size_t count, double *s, size_t s_len);
+extern size_t measure_lazy(size_t what, const double *m, size_t m_len, const double *given, size_t given_len, size_t n, size_t p, double alpha, double l1_ratio,
+                           size_t panel_rows, size_t panel_cols, size_t count, double *s, size_t s_len);
+extern size_t measure_eager(size_t what, const double *m, size_t m_len, const double *given, size_t given_len, size_t n, size_t p, double alpha, double l1_ratio,
+                            size_t count, double *s, size_t s_len);
+
+static const double ALPHA = 0.1, L1_RATIO = 0.5, TOL = DBL_MIN;
+static const size_t PANEL_ROWS = 256, PANEL_COLS = 32, WORDS = 289536; // the Rust's panels; the most that a fit needs
+
+static void fail(const char *why) {
+    fprintf(stderr, "driver: %s\n", why);
+    exit(2);
+}
+
+static double *room(size_t count) {
+    double *all = calloc(count, sizeof *all);
+    if (!all) fail("no memory");
+    return all;
+}
+
+// Numbers of (-1, 1) by SplitMix64.
+static uint64_t state;
+
+static double next(void) {
+    uint64_t w = state += 0x9e3779b97f4a7c15;
+    w = (w ^ (w >> 30)) * 0xbf58476d1ce4e5b9;
+    w = (w ^ (w >> 27)) * 0x94d049bb133111eb;
+    w ^= w >> 31;
+    return ((double)(w >> 12) + 0.5) * 0x1p-51 - 1.0;
+}
+
+static double *numbers(size_t count) {
+    double *all = room(count);
+    for (size_t i = 0; i < count; i++) all[i] = next();
+    return all;
+}
+
+struct problem {
+    size_t n, p;
+    double *x;       // n by p
+    double *vectors; // p, then n + p
+    double *gram;    // p by p
+    double *given;   // d1, d2, prb, prs, dxu, grad
+};
+
+// The Gram of x as it is; d1, d2, prb and prs of weights within bounds of 1 at t = 1; a start of +0; the right side.
+static void newton(struct problem *q, const double *grad) {
+    size_t n = q->n, p = q->p;
+    q->gram = room(p * p);
+    q->given = room(8 * p);
+    for (size_t r = 0; r < p; r++)
+        for (size_t c = 0; c < p; c++) {
+            double sum = 0.0;
+            for (size_t i = 0; i < n; i++) sum += q->x[i * p + r] * q->x[i * p + c];
+            q->gram[r * p + c] = sum;
+        }
+    for (size_t i = 0; i < p; i++) {
+        double q1 = 1.0 / (1.0 + q->vectors[i]), q2 = 1.0 / (1.0 - q->vectors[i]);
+        double a = q1 * q1 + q2 * q2, b = q1 * q1 - q2 * q2;
+        q->given[i] = a;
+        q->given[p + i] = b;
+        q->given[2 * p + i] = 2.0 + a;
+        q->given[3 * p + i] = (2.0 + a) * a - b * b;
+    }
+    memcpy(q->given + 6 * p, grad, 2 * p * sizeof *grad);
+}
+
+static struct problem problem(size_t n, size_t p) {
+    struct problem q = {.n = n, .p = p};
+    state = n * 1000 + p;
+    q.x = numbers(n * p);
+    free(numbers(n)); // targets: the Rust's augmentation takes them along
+    q.vectors = numbers(n + 2 * p);
+    double *grad = numbers(2 * p);
+    newton(&q, grad);
+    free(grad);
+    return q;
+}
+
+enum side { ROUND, LAZY, EAGER };
+
+static const struct piece {
+    const char *name;
+    enum side side;
+    size_t what;
+} pieces[] = {
+    {"round", ROUND, 1}, {"lazy-gram", LAZY, 3}, {"lazy-rows", LAZY, 4}, {"lazy-columns", LAZY, 5}, {"statistics", EAGER, 1},
+    {"scale", EAGER, 2}, {"ab", EAGER, 3}, {"eager-rows", EAGER, 4}, {"eager-columns", EAGER, 5},
+};
+
+static size_t call(enum side side, size_t what, const struct problem *q, size_t count, double *s, size_t words) {
+    size_t n = q->n, p = q->p, vectors = n + 2 * p;
+    switch (side) {
+    case ROUND: return measure_round(q->gram, p * p, q->given, 8 * p, p, TOL, count, s, words);
+    case LAZY: return measure_lazy(what, q->x, n * p, q->vectors, vectors, n, p, ALPHA, L1_RATIO, PANEL_ROWS, PANEL_COLS, count, s, words);
+    default: return measure_eager(what, q->x, n * p, q->vectors, vectors, n, p, ALPHA, L1_RATIO, count, s, words);
+    }
+}
+
+// What a piece finds in the scratch: nothing; statistics and vectors; these and the stored design.
+static int ready(const struct piece *of, const struct problem *q, double *s, size_t words) {
+    if (of->side == ROUND) return 1;
+    if (!call(of->side, 0, q, 1, s, words)) return 0;
+    return of->side == LAZY || of->what <= 2 || call(EAGER, 2, q, 1, s, words);
+}
+
+static size_t length(const struct piece *of, size_t n, size_t p) {
+    size_t lengths[] = {0, 2 * p, (n + p) * p, p * p, n + p, p};
+    return of->side == ROUND ? 2 * p : lengths[of->what];
+}
+
+static uint64_t now(void) {
+    struct timespec t;
+    clock_gettime(CLOCK_MONOTONIC, &t);
+    return (uint64_t)t.tv_sec * 1000000000 + t.tv_nsec;
+}
+
+static uint64_t sum_of(const double *values, size_t count) {
+    uint64_t sum = 0;
+    for (size_t i = 0; i < count; i++) {
+        uint64_t bits;
+        memcpy(&bits, values + i, sizeof bits);
+        sum = ((sum << 5 | sum >> 59) ^ bits) * 0x9e3779b97f4a7c15;
+    }
+    return sum;
+}
+
+int main(int argc, char **argv) {
+    if (argc != 6) fail("usage: driver PIECE N P COUNT CALLS");
+    const struct piece *of = NULL;
+    for (size_t i = 0; i < sizeof pieces / sizeof *pieces; i++)
+        if (!strcmp(argv[1], pieces[i].name)) of = pieces + i;
+    size_t n = strtoul(argv[2], NULL, 10), p = strtoul(argv[3], NULL, 10), count = strtoul(argv[4], NULL, 10), calls = strtoul(argv[5], NULL, 10);
+    if (!of || n < 2 || n > 4096 || p < 1 || p > 64 || count < 1 || calls < 1) fail("no such piece, or a size is wrong");
+    struct problem q = problem(n, p);
+    double *s = room(WORDS);
+    uint64_t best = UINT64_MAX;
+    size_t at = 0;
+    for (size_t i = 0; i < calls; i++) {
+        memset(s, 0, WORDS * sizeof *s);
+        if (!ready(of, &q, s, WORDS)) fail("refused");
+        uint64_t start = now();
+        at = call(of->side, of->what, &q, count, s, WORDS);
+        uint64_t taken = now() - start;
+        if (!at) fail("refused");
+        if (taken < best) best = taken;
+    }
+    printf("%s %zu %zu %zu %016" PRIx64 " %" PRIu64 "\n", of->name, n, p, count, sum_of(s + at, length(of, n, p)), best);
+    return 0;
+}
