@@ -24,9 +24,13 @@ two = f64 0x4000_0000_0000_0000
 abbrev pub minPcgtol : Float
 minPcgtol = f64 0x3fb9_9999_9999_999a
 
--- 0.001
+-- 0.001, which is also what the first t's most is divided by
 abbrev pub eta : Float
 eta = f64 0x3f50_624d_d2f1_a9fc
+
+-- t at the start: `max(1, 1 / lambda)`, at most 2p / 0.001
+unfoldable pub startT : ℕ → Float → Float
+startT p lambda = minimumOf (maximumOf one (one ⊘ lambda)) (two ⊗ whole p ⊘ eta)
 
 -- `if s >= 0.5 { t = t.max((2 * p * mu / gap).min(mu * t)) }`, with mu = 2
 unfoldable pub nextT : ℕ → Float → Float → Float → Float

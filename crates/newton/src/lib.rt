@@ -7,7 +7,14 @@ ghost use Prim.Native.Nat.{_<_, _^_};
 ghost use lib.Ieee.{Float, neg};
 ghost use Rattle.arrays.specs.Part.{part, put};
 ghost use Rattle.arrays.specs.Vectors.{mapOf, zipOf, One, Two};
-ghost use Rattle.newton.specs.Newton.{nextT, overSum, overDifference, sumOfSquares, differenceOfSquares, g1Of, g2At, prbAt, prsOf, tolerance, Three};
+ghost use Rattle.newton.specs.Newton.{startT, nextT, overSum, overDifference, sumOfSquares, differenceOfSquares, g1Of, g2At, prbAt, prsOf, tolerance, Three};
+
+pub fn first_t(p: usize, lambda: f64) -> f64
+    requires { ⌜ p < 2 ^ 32 ⌝ }
+    ensures { λ r. ⌜ r ≡ startT p lambda ⌝ }
+{
+    minimum(maximum(1.0, 1.0 / lambda), 2.0 * float_of(p) / 0.001)
+}
 
 pub fn next_t(p: usize, s: f64, gap: f64, t: f64) -> f64
     requires { ⌜ p < 2 ^ 32 ⌝ }

@@ -1,0 +1,4 @@
+pub mod Barrier
+pub mod Trial
+pub mod Kept
+pub mod Lambda
