@@ -10,7 +10,7 @@ use native.Mathlib.Decide.{decLt}
 use native.Mathlib.Omega.{arith}
 use lib.ListN.{length, getD, set, take, drop, length-append, length-drop, drop-of-length-le, List·getD-append}
 use lib.Seq.{sets, length-sets, sets-eq, length-take-le, take-set-le, drop-set-lt, drop-set-add, set-comm, set-set, take-at, drop-at}
-use lib.Seq.{getD-set-other, getD-take, getD-drop, getD-append-add, ext-getD}
+use lib.Seq.{getD-set-other, getD-take, getD-drop, getD-append-add, ext-getD, take-take, drop-drop}
 
 -- the n elements from a and the k from b have none in common
 abbrev pub Apart : ℕ → ℕ → ℕ → ℕ → Type 0
@@ -58,6 +58,18 @@ module _ {A : Type 0} where
   pub getD-part : (s : List A) (a k i : ℕ) (d : A) → i < k → getD (part s a k) i d ≡ getD s (a + i) d
   unfolding part
   getD-part s a k i d h = getD-take k (drop a s) i d h ∙ getD-drop a s i d
+
+  -- ---- a part of a part
+
+  take-mid : (k b n : ℕ) (s : List A) → b + k ≤ n → take k (drop b (take n s)) ≡ take k (drop b s)
+  take-mid k zero n s h = take-take k n s (omega arith)
+  take-mid k (suc b) zero s h = absurd (omega arith)
+  take-mid k (suc b) (suc n) [] h = refl
+  take-mid k (suc b) (suc n) (x ∷ xs) h = take-mid k b n xs (omega arith)
+
+  pub part-part : (s : List A) (a n b k : ℕ) → b + k ≤ n → part (part s a n) b k ≡ part s (a + b) k
+  unfolding part
+  part-part s a n b k h = take-mid k b n (drop a s) h ∙ ap (take k) (drop-drop b a s)
 
   -- ---- a store, and a part that it does not touch
 

@@ -26,7 +26,7 @@ bounded-positive k t b = between one t (power2 (17 + k)) tt tt (b .at-least) (b 
 pub bounded-finite : (k : ℕ) (t : Float) → Bounded k t → T (finite t) × T (positive t)
 bounded-finite k t b = let p = bounded-positive k t b in (positive-finite t p, p)
 
-later : (j k : ℕ) (t : Float) → j ≤ k → Bounded j t → Bounded k t
+pub later : (j k : ℕ) (t : Float) → j ≤ k → Bounded j t → Bounded k t
 later j k t h b = record {
   at-least = b .at-least;
   at-most =

@@ -3,6 +3,7 @@ use mathlib.Core.Path.{_≡_}
 use mathlib.Core.Bool.{true}
 use mathlib.Core.List.{List}
 use Prim.Native.Nat.{ℕ, _+_, _*_, _≤_, _<_}
+use native.Mathlib.Omega.{arith}
 use lib.Dec.{T}
 use lib.ListN.{length}
 use lib.Ieee.{Float, nan, neg, lt, ofBits}
@@ -14,7 +15,7 @@ use Rattle.arrays.specs.Vectors.{fillOf, length-fill}
 use Rattle.newton.specs.Newton.{one, startT, nextT}
 use Rattle.line_search.specs.Search.{facesOf, largestOf, sumlognegOf, phiOf, decreases}
 use Rattle.bound.specs.Kept.{Inside, Bounded, Kept}
-use Rattle.bound.proofs.Barrier.{bounded-positive, start-bounded, next-bounded}
+use Rattle.bound.proofs.Barrier.{bounded-positive, later, start-bounded, next-bounded}
 use Rattle.bound.proofs.Trial.{accepted-inside}
 
 -- ---- the start, w = 0 and u = 1
@@ -41,6 +42,10 @@ kept-round p k s gap t ws us h c = record {
   inside = c .inside;
   barrier = next-bounded p k s gap t h (c .barrier);
 }
+
+-- a round that ends the fit leaves t as it was
+pub kept-later : (p k : ℕ) (t : Float) (ws us : List Float) → Kept p k t ws us → Kept p (k + 1) t ws us
+kept-later p k t ws us c = record { columns = c .columns; bounds = c .bounds; inside = c .inside; barrier = later k (k + 1) t (omega arith) (c .barrier) }
 
 pub kept-accept : (p k : ℕ) (lambda t zz phi s gdx : Float) (ws us : List Float) → length ws ≡ p → length us ≡ p → T (unsigned lambda) → Bounded k t
     → lt (largestOf (2 * p) (facesOf p ws us)) plus0 ≡ true

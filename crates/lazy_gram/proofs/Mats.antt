@@ -25,7 +25,7 @@ ends at p k w n q hw h a l = omega (arith, hw a l, row-le a n p l)
 
 -- ---- a put of a table
 
-getD-put-tab : (s : List Float) (a : ℕ) (f : ℕ → Float) (n i : ℕ) → a + n ≤ length s → i < n → put s a (tab f n) ! (a + i) ≡ f i
+pub getD-put-tab : (s : List Float) (a : ℕ) (f : ℕ → Float) (n i : ℕ) → a + n ≤ length s → i < n → put s a (tab f n) ! (a + i) ≡ f i
 getD-put-tab s a f n i l h =
     sym (getD-part (put s a (tab f n)) a n i nan h)
     ∙ ap (λ (r : List Float). r ! i) (part-put-same s a (tab f n) n (length-tab f n) l)
@@ -43,7 +43,7 @@ put-tab-tab s a k f n =
     ∙ put-append s a (tab f k) (tab (λ b. f (k + b)) n) ∙ ap (put s a) (tab-add f k n)
 
 -- what is there already, written again
-put-self : (s : List Float) (a : ℕ) (f : ℕ → Float) (n : ℕ) → a + n ≤ length s → ((b : ℕ) → b < n → f b ≡ s ! (a + b)) → put s a (tab f n) ≡ s
+pub put-self : (s : List Float) (a : ℕ) (f : ℕ → Float) (n : ℕ) → a + n ≤ length s → ((b : ℕ) → b < n → f b ≡ s ! (a + b)) → put s a (tab f n) ≡ s
 put-self s a f n h e = ext-getD nan (put s a (tab f n)) s (length-put s a (tab f n)) (λ i l. go i (decLt i a) (decLt i (a + n))) where
   go : (i : ℕ) → Dec (i < a) → Dec (i < a + n) → put s a (tab f n) ! i ≡ s ! i
   go i (yes l) m = getD-put-above s a (tab f n) i nan l

@@ -75,18 +75,19 @@ pub record Fill (m : List Float) (p row nr col nc : ℕ) (s : List Float) (ce sc
 abbrev pub wid : ℕ → ℕ → ℕ → ℕ
 wid nk d a = least nk (d + a + 1)
 
--- the sum at row a, column b of a block, and the products of one row of its panels
-abbrev pub rankAt : List Float → ℕ → ℕ → ℕ → ℕ → ℕ → ℕ → Float
-rankAt s g p l r a b = s ! (g + a * p + b) ⊕ s ! (l + a) ⊗ s ! (r + b)
+-- sum b of those from `at`, after i rows of the panels: the left one's column from l, and the right one's column b from r
+unfoldable pub sumAt : List Float → ℕ → ℕ → ℕ → ℕ → ℕ → ℕ → Float
+sumAt s at l r cc i b = products (s ! (at + b)) (λ k. s ! (l + k * cc)) (λ k. s ! (r + k * cc + b)) i
 
-pub record Rank (s : List Float) (g p nj nk d l r : ℕ) : Type 0 where
-  pub room : g + nj * p + nk ≤ length s + p
-  pub wide : nk ≤ p
-  pub left : l + nj ≤ g
-  pub right : r + nk ≤ g
-  pub fits : d + nj ≤ length s
+-- the panels lie before the sums, and no place wraps
+pub record EntryRow (s : List Float) (at w l r cc nr : ℕ) : Type 0 where
+  pub room : at + w ≤ length s
+  pub width : w ≤ cc
+  pub left : l + nr * cc < at + cc
+  pub fits : l + nr * cc ≤ at + length s
+  pub right : r + nr * cc ≤ at
 
--- the same after i rows of its panels
+-- the sum at row a, column b of a block, after i rows of its panels
 unfoldable pub carry : List Float → ℕ → ℕ → ℕ → ℕ → ℕ → ℕ → ℕ → ℕ → Float
 carry s g p l r cc i a b = products (s ! (g + a * p + b)) (λ k. s ! (l + k * cc + a)) (λ k. s ! (r + k * cc + b)) i
 

@@ -12,7 +12,7 @@ ghost use lib.ListN.{length};
 ghost use Rattle.arrays.specs.Part.{put, tab};
 ghost use Rattle.layout.specs.Slots.{Has, vars, rest};
 ghost use Rattle.lazy_gram.specs.Gram.{lazyGramStore, Lent};
-ghost use Rattle.lazy_gram.specs.Panels.{least, normAt, FillRow, mat, same, panelAt, Fill, wid, rankAt, Rank, carry, Block};
+ghost use Rattle.lazy_gram.specs.Panels.{least, normAt, FillRow, mat, same, panelAt, Fill, wid, sumAt, EntryRow, carry, Block};
 ghost use Rattle.lazy_gram.specs.Panels.{Like, cell, entry, advanced, Pairs, tri, low, advancedLow, Lie, Column, Rows, Clear, nones};
 ghost use Rattle.lazy_gram.specs.Panels.{raisedAt, across, right-of, turned, MirrorRow, gramAt};
 
@@ -66,22 +66,58 @@ fn fill_panel(
     }
 }
 
-// The products of one row of each panel, added to the sums of a block.
-fn rank(s: &mut [f64], g: usize, p: usize, nj: usize, nk: usize, d: usize, l: usize, r: usize)
-    requires { ⌜ Rank (now s) g p nj nk d l r ⌝ }
-    ensures { λ _. ⌜ now (s .exit) ≡ mat (now (s .entry)) g p (wid nk d) (rankAt (now (s .entry)) g p l r) nj ⌝ }
+// The products of four rows of the panels, added to w sums in the rows' order.
+fn four_rows(s: &mut [f64], at: usize, w: usize, l: usize, r: usize, cc: usize)
+    requires { ⌜ EntryRow (now s) at w l r cc 4 ⌝ }
+    ensures { λ _. ⌜ now (s .exit) ≡ put (now (s .entry)) at (tab (sumAt (now (s .entry)) at l r cc 4) w) ⌝ }
 {
-    let mut a = 0usize;
-    while a < nj {
-        let w = least_of(nk, d + a + 1);
-        let v = s[l + a];
-        let at = g + a * p;
-        add_scaled(s, at, at, v, r, w);
-        a += 1;
+    let l1 = l + cc;
+    let l2 = l1 + cc;
+    let v0 = s[l];
+    let v1 = s[l1];
+    let v2 = s[l2];
+    let v3 = s[l2 + cc];
+    let r1 = r + cc;
+    let r2 = r1 + cc;
+    let r3 = r2 + cc;
+    let mut b = 0usize;
+    while b < w {
+        s[at + b] = s[at + b] + v0 * s[r + b] + v1 * s[r1 + b] + v2 * s[r2 + b] + v3 * s[r3 + b];
+        b += 1;
     }
 }
 
-// The products of nr rows of the panels, row by row.
+// The same of nr rows, one at a time.
+fn few_rows(s: &mut [f64], at: usize, w: usize, l: usize, r: usize, cc: usize, nr: usize)
+    requires { ⌜ EntryRow (now s) at w l r cc nr ⌝ }
+    ensures { λ _. ⌜ now (s .exit) ≡ put (now (s .entry)) at (tab (sumAt (now (s .entry)) at l r cc nr) w) ⌝ }
+{
+    let mut i = 0usize;
+    while i < nr {
+        let q = i * cc;
+        let v = s[l + q];
+        add_scaled(s, at, at, v, r + q, w);
+        i += 1;
+    }
+}
+
+// The products of nr rows of the panels, added to the w sums of one entry row. By fours, so that a sum is read and written once for four products; the rest in
+// a loop of its own, since then the compiler tests once for all fours, and not for each, whether sums and panels overlap.
+fn entry_row(s: &mut [f64], at: usize, w: usize, l: usize, r: usize, cc: usize, nr: usize)
+    requires { ⌜ EntryRow (now s) at w l r cc nr ⌝ }
+    ensures { λ _. ⌜ now (s .exit) ≡ put (now (s .entry)) at (tab (sumAt (now (s .entry)) at l r cc nr) w) ⌝ }
+{
+    let mut i = 0usize;
+    while 4 <= nr - i {
+        let q = i * cc;
+        four_rows(s, at, w, l + q, r + q, cc);
+        i += 4;
+    }
+    let q = i * cc;
+    few_rows(s, at, w, l + q, r + q, cc, nr - i);
+}
+
+// The products of nr rows of the panels, entry row by entry row.
 fn block(
     s: &mut [f64],
     g: usize,
@@ -97,11 +133,11 @@ fn block(
     requires { ⌜ Block (now s) g p nj nk d l r cc nr ⌝ }
     ensures { λ _. ⌜ now (s .exit) ≡ mat (now (s .entry)) g p (wid nk d) (carry (now (s .entry)) g p l r cc nr) nj ⌝ }
 {
-    let mut i = 0usize;
-    while i < nr {
-        let q = i * cc;
-        rank(s, g, p, nj, nk, d, l + q, r + q);
-        i += 1;
+    let mut a = 0usize;
+    while a < nj {
+        let w = least_of(nk, d + a + 1);
+        entry_row(s, g + a * p, w, l + a, r, cc, nr);
+        a += 1;
     }
 }
 

@@ -1,87 +1,85 @@
--- `lazy_gram::block` meets its contract. The invariant: the sums of the block are those after i rows of its panels. Assumes nothing.
-use mathlib.Core.Path.{_≡_, refl, sym, ap, _∙_}
+-- `lazy_gram::block` meets its contract. Assumes nothing.
+use mathlib.Core.Path.{_≡_}
 use mathlib.Core.List.{List}
-use Prim.Native.Nat.{ℕ, _+_, _-_, _*_, _≤_, _<_}
+use Prim.Native.Nat.{ℕ, _+_, _-_, _*_, _<_}
 use native.Mathlib.Omega.{arith}
-use lib.ListN.{length}
 use lib.Ieee.{Float}
-use Rattle.arrays.specs.Sums.{_!_, fold-none, fold-turn}
-use Rattle.lazy_gram.specs.Panels.{mat, wid, rankAt, carry, Block}
-use Rattle.lazy_gram.proofs.Mats.{row-le, ends, length-mat, mat-in, mat-below, mat-ext, mat-mat, mat-self}
+use Rattle.arrays.specs.Part.{put, tab}
+use Rattle.arrays.specs.Sums.{fold-ext}
+use Rattle.lazy_gram.specs.Panels.{wid, sumAt, carry, Block}
+use Rattle.lazy_gram.proofs.Mats.{row-le, Striped, striped-none, striped-more, striped-all, before-rows, beyond-rows}
 use Rattle.lazy_gram.proofs.block.Statement.{statement}
 use Rattle.lazy_gram.proofs.block.Tie as tie
 
-start : {s₀ : List Float} {g p nj nk d l r cc nr : ℕ} → Block s₀ g p nj nk d l r cc nr → s₀ ≡ mat s₀ g p (wid nk d) (carry s₀ g p l r cc 0) nj
-unfolding carry
-start {s₀} {g} {p} {nj} {nk} {d} {l} {r} {cc} pre =
-    sym (mat-self s₀ g p (wid nk d) (carry s₀ g p l r cc 0) nj (ends g p nk (wid nk d) nj (length s₀) (λ a m. omega arith) (pre .room))
-    (λ a b ha hb. fold-none _ _ _))
-
-turn : {s₀ : List Float} {g p nj nk d l r cc nr i q : ℕ} {s s′ : List Float} → Block s₀ g p nj nk d l r cc nr → i < nr
-    → s ≡ mat s₀ g p (wid nk d) (carry s₀ g p l r cc i) nj → q ≡ i * cc → s′ ≡ mat s g p (wid nk d) (rankAt s g p (l + q) (r + q)) nj
-    → s′ ≡ mat s₀ g p (wid nk d) (carry s₀ g p l r cc (i + 1)) nj
-unfolding carry
-turn {s₀} {g} {p} {nj} {nk} {d} {l} {r} {cc} {nr} {i} {q} {s} {s′} pre h es eq e =
-    let f = carry s₀ g p l r cc in
-    let W = wid nk d in
-    let k = row-le i nr cc h in
-    let hw : (a : ℕ) → W a ≤ p = λ a. omega arith in
-    let low : (j : ℕ) → j < g → s ! j ≡ s₀ ! j = λ j m. rw es (mat-below s₀ g p W (f i) nj j m) in
-    let inn : (a b : ℕ) → a < nj → b < W a → s ! (g + a * p + b) ≡ f i a b =
-    λ a b ha hb. rw es (mat-in s₀ g p W (f i) nj a b (λ z m. hw z) (ends g p nk W nj (length s₀) (λ z m. omega arith) (pre .room) a ha) ha hb) in
-    let t : mat s g p W (rankAt s g p (l + q) (r + q)) nj ≡ mat s g p W (f (i + 1)) nj =
-    mat-ext s g p W W (rankAt s g p (l + q) (r + q)) (f (i + 1)) nj (λ a m. refl)
-    (λ a b ha hb. fold-turn _ _ _ i _ _ (inn a b ha hb) (rw (eq, low (l + i * cc + a) (omega arith), low (r + i * cc + b) (omega arith)))) in
-    e ∙ t ∙ ap (λ (z : List Float). mat z g p W (f (i + 1)) nj) es ∙ mat-mat s₀ g p W (f i) (f (i + 1)) nj (λ a m. hw a)
+turn : {s₀ : List Float} {g p nj nk d l r cc nr : ℕ} {s s′ : List Float} {a w : ℕ} → Block s₀ g p nj nk d l r cc nr
+    → Striped s₀ g p (wid nk d) (carry s₀ g p l r cc nr) nj s a → a < nj → w ≡ wid nk d a
+    → s′ ≡ put s (g + a * p) (tab (sumAt s (g + a * p) (l + a) r cc nr) w) → Striped s₀ g p (wid nk d) (carry s₀ g p l r cc nr) nj s′ (a + 1)
+unfolding sumAt carry
+turn {s₀} {g} {p} {nj} {nk} {d} {l} {r} {cc} {nr} {s} {s′} {a} {w} pre t h ew e =
+    striped-more t w (sumAt s (g + a * p) (l + a) r cc nr) s′ h ew
+    (λ b m.
+    rw (beyond-rows t (g + a * p + b) (λ z q. omega arith) (omega arith)) (fold-ext _ _ _ _ nr (λ k q.
+    let u = row-le k nr cc q in
+    let el : l + a + k * cc ≡ l + k * cc + a = omega arith in
+    rw (el, before-rows t (l + k * cc + a) (omega arith), before-rows t (r + k * cc + b) (omega arith))))) e
 
 abbrev Inv-loop : tie.InvT-loop
-Inv-loop s₀ g p nj nk d l r cc nr i₀ s i = (i ≤ nr) × (length s ≡ length s₀) × (s ≡ mat s₀ g p (wid nk d) (carry s₀ g p l r cc i) nj)
+Inv-loop s₀ g p nj nk d l r cc nr a₀ s a = Striped s₀ g p (wid nk d) (carry s₀ g p l r cc nr) nj s a
 
 abbrev μ-loop : tie.MeasureT-loop
-μ-loop s₀ g p nj nk d l r cc nr i₀ s i = nr - i
+μ-loop s₀ g p nj nk d l r cc nr a₀ s a = nj - a
 
 loop-holds : tie.Need-loop-holds Inv-loop μ-loop
-loop-holds c = (omega arith, refl, start (c .before .pre))
+loop-holds c = striped-none _ _ _ _ _ _
 
-mul-q : tie.Need-mul-q Inv-loop μ-loop
-mul-q c =
-    let at = c .before in
+add-least-of : tie.Need-add-least-of Inv-loop μ-loop
+add-least-of c = omega arith
+
+add-least-of-2 : tie.Need-add-least-of-2 Inv-loop μ-loop
+add-least-of-2 c = omega arith
+
+least-of-requires : tie.Need-least-of-requires Inv-loop μ-loop
+least-of-requires c κs = omega arith
+
+mul-entry-row : tie.Need-mul-entry-row Inv-loop μ-loop
+mul-entry-row c =
+    let at = c .before .before .before in
     let g = at .before .before .args in
-    let h = row-le (at .loop .i) (g .nr) (g .cc) (omega arith) in
+    let h = row-le (at .loop .a) (g .nj) (g .p) (omega arith) in
     omega arith
 
-add-rank : tie.Need-add-rank Inv-loop μ-loop
-add-rank c =
-    let at = c .before .before in
+add-entry-row : tie.Need-add-entry-row Inv-loop μ-loop
+add-entry-row c =
+    let at = c .before .before .before in
     let g = at .before .before .args in
-    let h = row-le (at .loop .i) (g .nr) (g .cc) (omega arith) in
+    let h = row-le (at .loop .a) (g .nj) (g .p) (omega arith) in
     omega arith
 
-add-rank-2 : tie.Need-add-rank-2 Inv-loop μ-loop
-add-rank-2 c =
-    let at = c .before .before in
+add-entry-row-2 : tie.Need-add-entry-row-2 Inv-loop μ-loop
+add-entry-row-2 c =
+    let at = c .before .before .before in
     let g = at .before .before .args in
-    let h = row-le (at .loop .i) (g .nr) (g .cc) (omega arith) in
+    let h = row-le (at .loop .a) (g .nj) (g .p) (omega arith) in
     omega arith
 
-rank-requires : tie.Need-rank-requires Inv-loop μ-loop
-rank-requires c κs =
-    let at = c .before .before in
+entry-row-requires : tie.Need-entry-row-requires Inv-loop μ-loop
+entry-row-requires c κs =
+    let at = c .before .before .before in
     let g = at .before .before .args in
-    let h = row-le (at .loop .i) (g .nr) (g .cc) (omega arith) in
-    record { room = omega arith; wide = omega arith; left = omega arith; right = omega arith; fits = omega arith }
+    let h = row-le (at .loop .a) (g .nj) (g .p) (omega arith) in
+    record { room = omega arith; width = omega arith; left = omega arith; fits = omega arith; right = omega arith }
 
-add-i : tie.Need-add-i Inv-loop μ-loop
-add-i c = omega arith
+add-a : tie.Need-add-a Inv-loop μ-loop
+add-a c = omega arith
 
 loop-less : tie.Need-loop-less Inv-loop μ-loop
 loop-less c = omega arith
 
 loop-again : tie.Need-loop-again Inv-loop μ-loop
 loop-again c =
-    let at = c .before .before .before .before .before in
-    let e = turn (at .before .before .pre) (omega arith) (at .loop .inv .2) refl (c .before .before .rank .ensures) in
-    (omega arith, ap length e ∙ length-mat _ _ _ _ _ _, e)
+    let at = c .before .before .before .before .before .before in
+    let lo = c .before .before .before .before .least-of in
+    turn (at .before .before .pre) (at .loop .inv) (omega arith) (lo .ensures) (c .before .before .entry-row .ensures)
 
 same-length : tie.Need-same-length Inv-loop μ-loop
 same-length c = omega arith
@@ -89,8 +87,7 @@ same-length c = omega arith
 returns : tie.Need-returns Inv-loop μ-loop
 returns c =
     let at = c .before in
-    let e : at .loop .i ≡ at .before .before .args .nr = omega arith in
-    rw e at (at .loop .inv .2)
+    striped-all (at .loop .inv) (omega arith)
 
 pub block-spec : {M : Type 1} → statement M
 block-spec =
@@ -99,11 +96,14 @@ block-spec =
     Inv-loop
     μ-loop
     loop-holds
-    mul-q
-    add-rank
-    add-rank-2
-    rank-requires
-    add-i
+    add-least-of
+    add-least-of-2
+    least-of-requires
+    mul-entry-row
+    add-entry-row
+    add-entry-row-2
+    entry-row-requires
+    add-a
     loop-less
     loop-again
     same-length

@@ -1,0 +1,41 @@
+-- A product with the design has an element to each row or each column, whichever way the design is held; and memory as long is right too. Assumes nothing.
+use mathlib.Core.Path.{_≡_, sym}
+use mathlib.Core.List.{List}
+use native.Mathlib.Decide.{ℕ-discrete}
+use native.Mathlib.Omega.{arith}
+use borrow.Author.Tests.{eq-eqb, ne-eqb}
+use lib.ListN.{length, length-append}
+use lib.Ieee.{Float}
+use Rattle.arrays.specs.Part.{length-tab}
+use Rattle.matrices.specs.Products.{length-rows, length-columns}
+use Rattle.settings.specs.declared.Terms.{Terms}
+use Rattle.layout.specs.declared.Sizes.{Sizes}
+use Rattle.layout.specs.declared.Places.{Places}
+use Rattle.layout.specs.Slots.{Store}
+use Rattle.lazy_normalization.specs.Lazy.{lazyRows, lazyColumns}
+use Rattle.design.specs.Mode.{matvecOf, transposedOf, Held}
+
+pub length-matvec : {sh : Sizes} {l : Places} {m s : List Float} → Held sh l m s → (t : Terms) (v : Store) (xs : List Float)
+    → length (matvecOf sh t m v xs) ≡ sh .k
+unfolding matvecOf lazyRows
+length-matvec {sh} {l} {m} h t v xs = go (ℕ-discrete (sh .rows) 0) where
+  go : Dec (sh .rows ≡ 0) → length (matvecOf sh t m v xs) ≡ sh .k
+  go (yes z) = rw (eq-eqb (sh .rows) 0 z, length-append, length-tab _ (sh .n), length-tab _ (sh .p)) (sym (h .all))
+  go (no z) = rw (ne-eqb (sh .rows) 0 z, length-rows) (h .stored z)
+
+pub length-transposed : (sh : Sizes) (t : Terms) (m : List Float) (v : Store) (xs : List Float) → length (transposedOf sh t m v xs) ≡ sh .p
+unfolding transposedOf lazyColumns
+length-transposed sh t m v xs = go (ℕ-discrete (sh .rows) 0) where
+  go : Dec (sh .rows ≡ 0) → length (transposedOf sh t m v xs) ≡ sh .p
+  go (yes z) = rw (eq-eqb (sh .rows) 0 z, length-tab)
+  go (no z) = rw (ne-eqb (sh .rows) 0 z, length-columns)
+
+pub held-on : {sh : Sizes} {l : Places} {m s s′ : List Float} → Held sh l m s → length s′ ≡ length s → Held sh l m s′
+held-on h e = record {
+  room = record { room = omega arith; laid = h .room .laid };
+  matrix = h .matrix;
+  rows = h .rows;
+  columns = h .columns;
+  all = h .all;
+  stored = h .stored;
+}

@@ -1,0 +1,5 @@
+pub mod Data
+pub mod Opening
+pub mod Solving
+pub mod Trial
+pub mod Fit

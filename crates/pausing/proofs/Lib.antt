@@ -1,0 +1,3 @@
+mod Untouched
+pub mod Keeps
+pub mod Theorems
