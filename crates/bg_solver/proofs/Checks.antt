@@ -4,7 +4,6 @@ use mathlib.Core.Bool.{Bool, true, false, not, _&&_}
 use mathlib.Core.List.{List, _++_}
 use Prim.Native.Nat.{ℕ, _+_, _*_, _≤_, _<_}
 use native.Mathlib.Nat.{zero-add}
-use native.Mathlib.Omega.{arith}
 use lib.Dec.{leb, eqb}
 use lib.ListN.{length, length-append}
 use lib.Ieee.{Float, le}
@@ -14,22 +13,15 @@ use Rattle.arrays.specs.Sums.{plus0}
 use Rattle.arrays.specs.Scan.{firstInfinite}
 use Rattle.arrays.specs.declared.scan.Found.{Found}
 use Rattle.arrays.specs.declared.scan.Found.the-variants.{Clean, At}
-use Rattle.refusal.specs.declared.Refusal.{Refusal}
 use Rattle.refusal.specs.declared.Refusal.the-variants.{Size, Length, Setting, Scratch, NotFinite, Tolerance, NoRounds}
-use Rattle.bg_solver.specs.declared.lone.Checked.{Checked}
-use Rattle.bg_solver.specs.declared.lone.Checked.the-variants.{Fine, Bad}
-use Rattle.bg_solver.specs.Solve.{ask, askValues, valued, checked, foundAt}
-use Rattle.bg_solver.proofs.Scanning.{orElse, further, scan-append, scan-further, FirstBad, AllFinite, opposed, scan-first, scan-clean}
+use Rattle.refusal.specs.declared.Checked.{Checked}
+use Rattle.refusal.specs.declared.Checked.the-variants.{Fine, Bad}
+use Rattle.refusal.specs.Checks.{ask, askValues, foundAt}
+use Rattle.refusal.proofs.Scanning.{orElse, further, scan-append, scan-from, FirstBad, AllFinite, opposed, scan-first, scan-clean}
+use Rattle.refusal.proofs.Asking.{refuted, both-true, ask-fine}
+use Rattle.bg_solver.specs.Solve.{valued, checked}
 
 -- ---- tests
-
-refuted : (t : Bool) → (t ≡ true → ⊥) → t ≡ false
-refuted true h = absurd (h refl)
-refuted false h = refl
-
-both-true : (p q : Bool) → p && q ≡ true → (p ≡ true) × (q ≡ true)
-both-true true q h = (refl, h)
-both-true false q h = absurd (opposed false refl h)
 
 -- a test that says the same as P
 pub tested : (t : Bool) {P : Type 0} → (t ≡ true → P) → (P → t ≡ true) → Dec P
@@ -127,12 +119,6 @@ unfolding checked
 good-sizes {n} {a} {b} {x} {tol} {limit} {room} p =
     rw (size-good n (p .sizes), length-good n a b x (p .lengths), setting-good tol limit (p .settings), le-leb (8 * n) room (p .scratch))
 
-ask-fine : (t : Bool) (r : Refusal) (rest : Checked) → ask t r rest ≡ Fine → (t ≡ true) × (rest ≡ Fine)
-ask-fine true r rest h = (refl, h)
-ask-fine false r rest h =
-    let z : _≡_ {A = ℕ} 0 1 = cc in
-    absurd (omega arith)
-
 pub passed : {n : ℕ} {a b x : List Float} {tol : Float} {limit room : ℕ} (k : Checked) → k ≡ checked n a b x tol limit room → k ≡ Fine
     → Passed n a b x tol limit room
 unfolding checked
@@ -144,11 +130,6 @@ passed {n} {a} {b} {x} {tol} {limit} k e f =
     record { sizes = size-of n (h₁ .0); lengths = length-of n a b x (h₂ .0); settings = setting-of tol limit (h₃ .0); scratch = leb-true _ _ (h₄ .0) }
 
 -- ---- 5, 8 and 10
-
-scan-from : (k : ℕ) (a : List Float) → firstInfinite (0 + k) a ≡ further k (firstInfinite 0 a)
-scan-from k a =
-    let e : 0 + k ≡ k + 0 = omega arith in
-    rw e (scan-further k 0 a)
 
 -- by what the scans of the three find
 module _ (a b x : List Float) (tol : Float) (limit : ℕ) where

@@ -1,4 +1,3 @@
-pub mod Scanning
 pub mod Checks
 mod Keeping
 mod Turning

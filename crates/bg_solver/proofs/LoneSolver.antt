@@ -14,12 +14,12 @@ use Rattle.arrays.specs.Sums.{plus0}
 use Rattle.arrays.specs.Vectors.{fillOf, length-fill}
 use Rattle.refusal.specs.declared.Refusal.{Refusal}
 use Rattle.refusal.specs.declared.Refusal.the-variants.{Size, Length, Setting, Scratch, NotFinite, Tolerance, NoRounds}
+use Rattle.refusal.specs.declared.Checked.{Checked}
+use Rattle.refusal.specs.declared.Checked.the-variants.{Fine, Bad}
+use Rattle.refusal.proofs.Scanning.{FirstBad, AllFinite, scan-known}
 use Rattle.bg_solver.specs.declared.lone.Answer.{Answer}
 use Rattle.bg_solver.specs.declared.lone.Answer.the-variants.{Solved, Refused}
-use Rattle.bg_solver.specs.declared.lone.Checked.{Checked}
-use Rattle.bg_solver.specs.declared.lone.Checked.the-variants.{Fine, Bad}
 use Rattle.bg_solver.specs.Solve.{Result, Result.found, Outcome, Outcome.outcome, byCheck, checked, finished, solved, solveOf, Said.refused, said}
-use Rattle.bg_solver.proofs.Scanning.{FirstBad, AllFinite, scan-known}
 use Rattle.bg_solver.proofs.Checks.{InSize, Lengths, Settled, Passed, size-known, lengths-known, settings-known}
 use Rattle.bg_solver.proofs.Checks.{bad-size, bad-length, bad-setting, bad-scratch, good-sizes, bad-value, bad-tolerance, bad-rounds, good-values}
 

@@ -5,10 +5,10 @@ use Prim.Native.Nat.{ℕ}
 use lib.ListN.{length}
 use lib.Ieee.{Float}
 use Rattle.refusal.specs.declared.Refusal.{Refusal}
+use Rattle.refusal.specs.declared.Checked.{Checked}
+use Rattle.refusal.specs.declared.Checked.the-variants.{Fine, Bad}
 use Rattle.bg_solver.specs.declared.lone.Answer.{Answer}
 use Rattle.bg_solver.specs.declared.lone.Answer.the-variants.{Solved}
-use Rattle.bg_solver.specs.declared.lone.Checked.{Checked}
-use Rattle.bg_solver.specs.declared.lone.Checked.the-variants.{Fine, Bad}
 use Rattle.bg_solver.specs.Solve.{Result, Outcome.outcome, checked, solved, finished, refusedOf, solveOf, Ran}
 
 module _ (n : ℕ) (a b x : List Float) (tol : Float) (limit : ℕ) (s : List Float) where

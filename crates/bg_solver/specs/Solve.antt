@@ -1,8 +1,8 @@
 -- The lone solver: solve_mut's loop, the refusals in 01's order, and what the lent memory holds afterwards. Definitions only.
 use mathlib.Core.Path.{_≡_}
-use mathlib.Core.Bool.{Bool, true, false, not, _&&_}
-use mathlib.Core.List.{List, [], _∷_, _++_}
-use Prim.Native.Nat.{ℕ, zero, suc, _+_, _-_, _*_, _^_, _≤_, _<_}
+use mathlib.Core.Bool.{true, false, not, _&&_}
+use mathlib.Core.List.{List, _++_}
+use Prim.Native.Nat.{ℕ, zero, suc, _+_, _-_, _*_, _≤_}
 use lib.Dec.{leb, eqb}
 use lib.ListN.{length, drop}
 use lib.Ieee.{Float, le}
@@ -11,15 +11,13 @@ use Rattle.arrays.specs.Sums.{plus0, normTwoOf}
 use Rattle.arrays.specs.Part.{part}
 use Rattle.arrays.specs.Vectors.{fillOf}
 use Rattle.arrays.specs.Scan.{firstInfinite}
-use Rattle.arrays.specs.declared.scan.Found.{Found}
-use Rattle.arrays.specs.declared.scan.Found.the-variants.{Clean, At}
-use Rattle.refusal.specs.declared.Refusal.{Refusal}
-use Rattle.refusal.specs.declared.Refusal.the-variants.{Size, Length, Setting, Scratch, NotFinite, Tolerance, NoRounds}
+use Rattle.refusal.specs.declared.Refusal.the-variants.{Size, Length, Setting, Scratch, Tolerance, NoRounds}
+use Rattle.refusal.specs.declared.Checked.{Checked}
+use Rattle.refusal.specs.declared.Checked.the-variants.{Fine, Bad}
 use Rattle.refusal.specs.Refusal.{numberOf, placeOf}
+use Rattle.refusal.specs.Checks.{ask, askValues}
 use Rattle.bg_solver.specs.declared.lone.Answer.{Answer}
 use Rattle.bg_solver.specs.declared.lone.Answer.the-variants.{Solved, Refused}
-use Rattle.bg_solver.specs.declared.lone.Checked.{Checked}
-use Rattle.bg_solver.specs.declared.lone.Checked.the-variants.{Fine, Bad}
 use Rattle.bg_solver.specs.Solver.{System, Work, Round, begun, turned, errorOf}
 use Rattle.bg_solver.specs.Lone.{loneSystem, diagonalOf, workIn, Loops}
 
@@ -50,15 +48,6 @@ solved n a b x tol limit =
     loop A (normTwoOf n b) tol (limit - 1) 1 plus0 plus0 (begun A b w)
 
 -- ---- the refusals
-
--- a test, and the refusal where it fails; what follows is looked at only where it holds
-abbrev pub ask : Bool → Refusal → Checked → Checked
-ask true r rest = rest
-ask false r rest = Bad r
-
-abbrev pub askValues : Found → Checked → Checked
-askValues Clean rest = rest
-askValues (At i) rest = Bad (NotFinite i)
 
 -- 5 (matrix, right side, start, as one list), 8, 10
 unfoldable pub valued : List Float → List Float → List Float → Float → ℕ → Checked
@@ -119,12 +108,3 @@ pub record Runs (n : ℕ) (a b x : List Float) (limit : ℕ) (s : List Float) : 
 pub record Looped (n : ℕ) (a : List Float) (bnrm tol : Float) (limit : ℕ) (m : List Float) (err : Float) (m′ : List Float) : Type 0 where
   pub is : part m (7 * n) n ≡ diagonalOf n a → found err (part m′ 0 n) ≡ loop (loneSystem n a) bnrm tol (limit - 1) 1 plus0 plus0 (workIn n m)
   pub rest : part m (7 * n) n ≡ diagonalOf n a → drop (8 * n) m′ ≡ drop (8 * n) m
-
--- what a scan found, `from` places further on; it was within a slice, which has less than 2 ^ 60 elements
-abbrev pub foundAt : Found → ℕ → Checked
-foundAt Clean from = Fine
-foundAt (At i) from = Bad (NotFinite (from + i))
-
-abbrev pub Near : Found → ℕ → Type 0
-Near Clean from = from ≤ 4160
-Near (At i) from = (from ≤ 4160) × (i < 2 ^ 60)

@@ -18,23 +18,20 @@ use arrays::vectors::sweep;
 use matrices::products::columns_of;
 use matrices::products::rows_of;
 use numbers::bits::canonical;
+use refusal::Checked;
 use refusal::Refusal;
+use refusal::at;
 ghost use mathlib.Core.Path.{_≡_};
 ghost use Prim.Native.Nat.{_*_, _≤_};
 ghost use lib.ListN.{length};
 ghost use Rattle.arrays.specs.Part.{part, put};
 ghost use Rattle.arrays.specs.Vectors.{Two};
 ghost use Rattle.bg_solver.specs.Lone.{diagonalOf, dividedOf, overOf, Begun, LoneTurn, Loops};
-ghost use Rattle.bg_solver.specs.Solve.{Outcome.outcome, refusedOf, checked, valued, foundAt, Near, solved, Runs, Ran, Looped, solveOf};
+ghost use Rattle.bg_solver.specs.Solve.{Outcome.outcome, refusedOf, checked, valued, solved, Runs, Ran, Looped, solveOf};
 
 pub enum Answer {
     Solved(f64),
     Refused(Refusal),
-}
-
-pub enum Checked {
-    Fine,
-    Bad(Refusal),
 }
 
 // Total, for all input: what is answered and what the lent memory then holds is `solveOf`. A NaN that is handed back has its one pattern.
@@ -122,17 +119,6 @@ fn values(n: usize, a: &[f64], b: &[f64], x: &[f64], tol: f64, limit: usize) -> 
         return Checked::Bad(Refusal::NoRounds);
     }
     Checked::Fine
-}
-
-// The place of a value that stands `from` places further in the order of the slices.
-fn at(f: Found, from: usize) -> Checked
-    requires { ⌜ Near f from ⌝ }
-    ensures { λ r. ⌜ r ≡ foundAt f from ⌝ }
-{
-    match f {
-        Found::At(i) => Checked::Bad(Refusal::NotFinite(from + i)),
-        Found::Clean => Checked::Fine,
-    }
 }
 
 // The solver proper, in an order that leaves the scratch +0.

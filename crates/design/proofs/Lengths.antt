@@ -1,27 +1,46 @@
--- A product with the design has an element to each row or each column, whichever way the design is held; and memory as long is right too. Assumes nothing.
+-- The statistics have an element to each column, and a product with the design one to each row or each column, whichever way the design is held; and memory as long is right too. Assumes nothing.
 use mathlib.Core.Path.{_≡_, sym}
+use mathlib.Core.Bool.{Bool, true, false}
 use mathlib.Core.List.{List}
+use Prim.Native.Nat.{ℕ, _+_}
 use native.Mathlib.Decide.{ℕ-discrete}
 use native.Mathlib.Omega.{arith}
 use borrow.Author.Tests.{eq-eqb, ne-eqb}
 use lib.ListN.{length, length-append}
 use lib.Ieee.{Float}
 use Rattle.arrays.specs.Part.{length-tab}
+use Rattle.arrays.specs.Vectors.{length-fill}
 use Rattle.matrices.specs.Products.{length-rows, length-columns}
 use Rattle.settings.specs.declared.Terms.{Terms}
 use Rattle.layout.specs.declared.Sizes.{Sizes}
 use Rattle.layout.specs.declared.Places.{Places}
 use Rattle.layout.specs.Slots.{Store}
 use Rattle.lazy_normalization.specs.Lazy.{lazyRows, lazyColumns}
+use Rattle.design.specs.Statistics.{centresOf, scalesOf}
 use Rattle.design.specs.Mode.{matvecOf, transposedOf, Held}
+
+pub length-centres : (normalise : Bool) (m : List Float) (n p : ℕ) → length (centresOf normalise m n p) ≡ p
+unfolding centresOf
+length-centres true m n p = length-tab _ p
+length-centres false m n p = length-fill _ p
+
+pub length-scales : (normalise : Bool) (m : List Float) (n p : ℕ) → length (scalesOf normalise m n p) ≡ p
+unfolding scalesOf
+length-scales true m n p = length-tab _ p
+length-scales false m n p = length-fill _ p
+
+-- of the sizes alone
+pub length-matvec-of : (sh : Sizes) → sh .k ≡ sh .n + sh .p → ((sh .rows ≡ 0 → ⊥) → sh .rows ≡ sh .k) → (t : Terms) (m : List Float) (v : Store) (xs : List Float)
+    → length (matvecOf sh t m v xs) ≡ sh .k
+unfolding matvecOf lazyRows
+length-matvec-of sh all stored t m v xs = go (ℕ-discrete (sh .rows) 0) where
+  go : Dec (sh .rows ≡ 0) → length (matvecOf sh t m v xs) ≡ sh .k
+  go (yes z) = rw (eq-eqb (sh .rows) 0 z, length-append, length-tab _ (sh .n), length-tab _ (sh .p)) (sym all)
+  go (no z) = rw (ne-eqb (sh .rows) 0 z, length-rows) (stored z)
 
 pub length-matvec : {sh : Sizes} {l : Places} {m s : List Float} → Held sh l m s → (t : Terms) (v : Store) (xs : List Float)
     → length (matvecOf sh t m v xs) ≡ sh .k
-unfolding matvecOf lazyRows
-length-matvec {sh} {l} {m} h t v xs = go (ℕ-discrete (sh .rows) 0) where
-  go : Dec (sh .rows ≡ 0) → length (matvecOf sh t m v xs) ≡ sh .k
-  go (yes z) = rw (eq-eqb (sh .rows) 0 z, length-append, length-tab _ (sh .n), length-tab _ (sh .p)) (sym (h .all))
-  go (no z) = rw (ne-eqb (sh .rows) 0 z, length-rows) (h .stored z)
+length-matvec {sh} {l} {m} h t v xs = length-matvec-of sh (h .all) (h .stored) t m v xs
 
 pub length-transposed : (sh : Sizes) (t : Terms) (m : List Float) (v : Store) (xs : List Float) → length (transposedOf sh t m v xs) ≡ sh .p
 unfolding transposedOf lazyColumns

@@ -1,13 +1,12 @@
 -- What each call of the solver leaves, over the store: the slots that it writes, with the vectors xs, ys, .. that they get. Assumes nothing.
 use mathlib.Core.Path.{_≡_, refl, sym, ap, _∙_}
-use mathlib.Core.Bool.{Bool, true, false}
+use mathlib.Core.Bool.{Bool}
 use mathlib.Core.List.{List}
 use Prim.Native.Nat.{ℕ, _*_}
-use native.Mathlib.Omega.{arith}
-use lib.ListN.{length, length-append}
+use lib.ListN.{length}
 use lib.Ieee.{Float}
 use Rattle.numbers.specs.Ops.{_⊕_, _⊖_, _⊗_, _⊘_}
-use Rattle.arrays.specs.Part.{part, put, length-tab}
+use Rattle.arrays.specs.Part.{part, put}
 use Rattle.arrays.specs.Sums.{productOf}
 use Rattle.arrays.specs.Vectors.{zipOf, length-zip}
 use Rattle.matrices.specs.Products.{rowsOf, length-rows}
@@ -17,23 +16,9 @@ use Rattle.layout.specs.Slots.{Slot, Store, Has, Laid, vars, vars-of, then, siz
 use Rattle.layout.specs.Slots.{Slot.D1, Slot.D2, Slot.PRB, Slot.PRS, Slot.DXU, Slot.R, Slot.RR, Slot.ZS, Slot.ZZ, Slot.PS, Slot.PP, Slot.ATAX, Slot.GRAM}
 use Rattle.bg_solver.specs.declared.shared.Seven.{Seven}
 use Rattle.bg_solver.specs.Shared.{aimed, directMem, advanceMem}
-use Rattle.inner_solver.specs.Inner.{halves, solvedOf, timesOf}
+use Rattle.inner_solver.specs.Inner.{solvedOf, timesOf}
 use Rattle.inner_solver.proofs.Joins.{rows-part}
-
-length-halves : (p : ℕ) (f g : ℕ → Float) → length (halves p f g) ≡ 2 * p
-length-halves p f g = rw (length-append, length-tab f p, length-tab g p) (omega arith)
-
-length-solved : (p : ℕ) (d1 d2 prb prs b : List Float) → length (solvedOf p d1 d2 prb prs b) ≡ 2 * p
-unfolding solvedOf
-length-solved p d1 d2 prb prs b = length-halves p _ _
-
-length-times : (p : ℕ) (gram d1 d2 x : List Float) → length (timesOf p gram d1 d2 x) ≡ 2 * p
-unfolding timesOf
-length-times p gram d1 d2 x = length-halves p _ _
-
-length-aimed : (first : Bool) (bk : Float) (n : ℕ) (pp z : List Float) → length z ≡ n → length (aimed first bk n pp z) ≡ n
-length-aimed true bk n pp z h = h
-length-aimed false bk n pp z h = length-zip _ n pp z
+use Rattle.inner_solver.proofs.Lengths.{length-solved, length-times, length-aimed}
 
 -- the places of the seven
 abbrev pub seats : Places → Seven

@@ -1,5 +1,6 @@
 mod Loops
 mod Joins
 mod Orders
+pub mod Lengths
 mod Calls
 mod Rounds

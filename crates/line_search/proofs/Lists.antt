@@ -2,7 +2,8 @@
 use mathlib.Core.Path.{_≡_, refl, sym, ap, _∙_}
 use mathlib.Core.Bool.{true}
 use mathlib.Core.List.{List, [], _∷_, foldl}
-use Prim.Native.Nat.{ℕ, zero, suc}
+use Prim.Native.Nat.{ℕ, zero, suc, _*_}
+use native.Mathlib.Nat.{mul-comm}
 use native.Mathlib.Omega.{arith}
 use lib.ListN.{length}
 use lib.Ieee.{Float, inf, neg, ofBits}
@@ -12,7 +13,7 @@ use Rattle.numbers.specs.Order.{maximumOf}
 use Rattle.logarithm.specs.Log.{lnOf}
 use Rattle.arrays.specs.Part.{tab}
 use Rattle.arrays.specs.Sums.{_!_, foldTo, sumOf}
-use Rattle.matrices.specs.Grid.{grid, grid-front}
+use Rattle.matrices.specs.Grid.{grid, grid-front, length-grid}
 use Rattle.line_search.specs.Search.{facesOf, facesList, largestOf, sumlognegOf}
 
 fold-front : (g : Float → Float → Float) (start : Float) (f : ℕ → Float) (n : ℕ)
@@ -48,3 +49,8 @@ faces-same (w ∷ ws) (u ∷ us) e =
 
 pub faces-list : (p : ℕ) (ws us : List Float) → length ws ≡ p → length us ≡ p → facesOf p ws us ≡ facesList ws us
 faces-list p ws us ew eu = rw (← ew) (faces-same ws us (eu ∙ sym ew))
+
+-- f lies in p rows of two, and its slot has 2 * p
+pub length-faces : (p : ℕ) (ws us : List Float) → length (facesOf p ws us) ≡ 2 * p
+unfolding facesOf
+length-faces p ws us = length-grid _ p 2 ∙ mul-comm p 2

@@ -1,1 +1,2 @@
 mod Three
+pub mod Lengths

@@ -3,9 +3,8 @@ use mathlib.Core.Path.{_≡_}
 use mathlib.Core.List.{List}
 use Prim.Native.Nat.{ℕ, _+_, _*_, _≤_}
 use native.Mathlib.Omega.{arith}
-use lib.ListN.{length, length-append}
 use lib.Ieee.{Float, neg}
-use Rattle.arrays.specs.Part.{part, put, put-append, length-tab, part-put-above}
+use Rattle.arrays.specs.Part.{part, put, put-append, part-put-above}
 use Rattle.arrays.specs.Vectors.{mapOf, zipOf, length-map, length-zip}
 use Rattle.settings.specs.declared.Terms.{Terms}
 use Rattle.layout.specs.declared.Sizes.{Sizes}
@@ -15,19 +14,8 @@ use Rattle.layout.specs.Slots.{Slot.W, Slot.U, Slot.Q1, Slot.Q2, Slot.D1, Slot.
 use Rattle.design.specs.Mode.{transposedOf}
 use Rattle.design.proofs.Lengths.{length-transposed}
 use Rattle.newton.specs.Newton.{overSum, overDifference, sumOfSquares, differenceOfSquares, g1Of, g2At, gradOf, prbAt, prsOf}
+use Rattle.newton.proofs.Lengths.{length-g1, length-grad, length-prs}
 use Rattle.lasso_optimizer.specs.Opening.{barrierStore, gradientStore, preconditionerStore}
-
-length-g1 : (p : ℕ) (t : Float) (xs q1 q2 : List Float) → length (g1Of p t xs q1 q2) ≡ p
-unfolding g1Of
-length-g1 p t xs q1 q2 = length-tab _ p
-
-length-grad : (p : ℕ) (lambda t : Float) (g1 q1 q2 : List Float) → length (gradOf p lambda t g1 q1 q2) ≡ 2 * p
-unfolding gradOf
-length-grad p lambda t g1 q1 q2 = rw (length-append, length-map neg p g1, length-zip (λ (a b : Float). neg (g2At lambda t a b)) p q1 q2) (omega arith)
-
-length-prs : (p : ℕ) (prb d1 d2 : List Float) → length (prsOf p prb d1 d2) ≡ p
-unfolding prsOf
-length-prs p prb d1 d2 = length-tab _ p
 
 -- the two halves of grad are one write: the second reads below the first
 grad-joined : (p : ℕ) (lambda t : Float) (xnu q1 q2 g : ℕ) → q1 + p ≤ g → q2 + p ≤ g → (m : List Float) {m₁ m₂ : List Float}

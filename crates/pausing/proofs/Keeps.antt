@@ -34,7 +34,7 @@ use Rattle.pausing.specs.Kept.{KeptData}
 use Rattle.pausing.proofs.Untouched.{Untouched, both, kept-by, begin-keeps, turn-keeps, moved-keeps, gap-keeps, newton-keeps, newz-keeps}
 
 -- a choice keeps what both ways keep
-chosen : {A : Type 0} (P : A → Type 0) (b : Bool) {x y : A} → P x → P y → P (cond b x y)
+pub chosen : {A : Type 0} (P : A → Type 0) (b : Bool) {x y : A} → P x → P y → P (cond b x y)
 chosen P true p q = p
 chosen P false p q = q
 

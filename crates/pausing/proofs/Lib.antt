@@ -1,3 +1,4 @@
 mod Untouched
 pub mod Keeps
+pub mod Sized
 pub mod Theorems

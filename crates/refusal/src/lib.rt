@@ -1,5 +1,7 @@
 // Why an input or a fit is refused, in the order of the numbers that the refusals have.
+use arrays::scan::Found;
 ghost use mathlib.Core.Path.{_≡_};
+ghost use Rattle.refusal.specs.Checks.{foundAt, Near};
 ghost use Rattle.refusal.specs.Refusal.{numberOf, placeOf};
 
 pub enum Refusal {
@@ -19,6 +21,12 @@ pub enum Refusal {
     Claim(usize),
     Pair(usize),
     TooLarge,
+}
+
+// What a check of an input answers.
+pub enum Checked {
+    Fine,
+    Bad(Refusal),
 }
 
 pub fn number(r: Refusal) -> u64
@@ -64,5 +72,16 @@ pub fn place(r: Refusal) -> usize
         Refusal::SheetLength => 0,
         Refusal::Flags => 0,
         Refusal::TooLarge => 0,
+    }
+}
+
+// The place of a value that stands `from` places further in the order of the slices.
+pub fn at(f: Found, from: usize) -> Checked
+    requires { ⌜ Near f from ⌝ }
+    ensures { λ r. ⌜ r ≡ foundAt f from ⌝ }
+{
+    match f {
+        Found::At(i) => Checked::Bad(Refusal::NotFinite(from + i)),
+        Found::Clean => Checked::Fine,
     }
 }

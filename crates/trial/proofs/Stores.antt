@@ -1,15 +1,13 @@
 -- The calls of `move_on`, `residuals` and `take` in a row, and what they leave together. Assumes nothing.
 use mathlib.Core.Path.{_≡_, _∙_}
 use mathlib.Core.List.{List}
-use Prim.Native.Nat.{ℕ, _+_, _*_}
-use native.Mathlib.Nat.{add-zero, mul-comm}
+use Prim.Native.Nat.{_+_, _*_}
+use native.Mathlib.Nat.{add-zero}
 use native.Mathlib.Omega.{arith}
-use lib.ListN.{length}
 use lib.Ieee.{Float}
 use Rattle.numbers.specs.Ops.{_⊕_, _⊖_, _⊗_}
 use Rattle.arrays.specs.Part.{part, put, part-part}
 use Rattle.arrays.specs.Vectors.{zipOf, length-zip}
-use Rattle.matrices.specs.Grid.{length-grid}
 use Rattle.settings.specs.declared.Terms.{Terms}
 use Rattle.layout.specs.declared.Sizes.{Sizes}
 use Rattle.layout.specs.declared.Places.{Places}
@@ -18,12 +16,8 @@ use Rattle.layout.specs.Slots.{Slot.W, Slot.U, Slot.NEWW, Slot.NEWU, Slot.F, Sl
 use Rattle.design.specs.Mode.{matvecOf, Held}
 use Rattle.design.proofs.Lengths.{length-matvec}
 use Rattle.line_search.specs.Search.{facesOf}
+use Rattle.line_search.proofs.Lists.{length-faces}
 use Rattle.lasso_optimizer.specs.Trial.{movedStore, newzStore, takenStore}
-
--- f lies in p rows of two, and its slot has 2 * p
-length-faces : (p : ℕ) (ws us : List Float) → length (facesOf p ws us) ≡ 2 * p
-unfolding facesOf
-length-faces p ws us = length-grid _ p 2 ∙ mul-comm p 2
 
 module _ {sh : Sizes} {l : Places} (w : Laid sh l) {e : List Float} {v : Store} {m : List Float} (h : Has sh e v m) where
   pub moved : (s : Float) {m₁ m₂ m₃ : List Float}

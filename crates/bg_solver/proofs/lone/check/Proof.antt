@@ -3,7 +3,7 @@ use mathlib.Core.Path.{sym, _∙_}
 use native.Mathlib.Nat.{mul-le-mul}
 use native.Mathlib.Omega.{arith}
 use borrow.Author.Tests.{not-true, not-false}
-use Rattle.bg_solver.proofs.Scanning.{opposed}
+use Rattle.refusal.proofs.Scanning.{opposed}
 use Rattle.bg_solver.proofs.Checks.{InSize, Lengths, Settled, bad-size, bad-length, bad-setting, bad-scratch, good-sizes}
 use Rattle.bg_solver.proofs.lone.check.Statement.{statement}
 use Rattle.bg_solver.proofs.lone.check.Tie as tie

@@ -9,9 +9,10 @@ use borrow.Author.Needs.{needs}
 use borrow.Author.Tests.{ne-eqb}
 use Rattle.arrays.specs.Sums.{plus0}
 use Rattle.refusal.specs.declared.Refusal.the-variants.{Tolerance, NoRounds}
-use Rattle.bg_solver.specs.declared.lone.Checked.the-variants.{Fine}
-use Rattle.bg_solver.specs.Solve.{ask, valued}
-use Rattle.bg_solver.proofs.Scanning.{near}
+use Rattle.refusal.specs.declared.Checked.the-variants.{Fine}
+use Rattle.refusal.specs.Checks.{ask}
+use Rattle.refusal.proofs.Scanning.{near}
+use Rattle.bg_solver.specs.Solve.{valued}
 use Rattle.bg_solver.proofs.Checks.{in-matrix, in-right, in-start, all-finite}
 use Rattle.bg_solver.proofs.lone.values.Statement.{statement}
 use Rattle.bg_solver.proofs.lone.values.Tie as tie

@@ -1,29 +1,18 @@
 -- `design::statistics::statistics` meets its contract: two slots are written. Assumes nothing.
 use Prim.Native.Nat.{ℕ}
-use mathlib.Core.Bool.{Bool, true, false}
+use mathlib.Core.Bool.{Bool}
 use mathlib.Core.Path.{_≡_, ap, _∙_}
 use mathlib.Core.List.{List}
 use native.Mathlib.Omega.{arith}
-use lib.ListN.{length}
 use lib.Ieee.{Float}
-use Rattle.arrays.specs.Part.{put, length-tab}
-use Rattle.arrays.specs.Vectors.{length-fill}
+use Rattle.arrays.specs.Part.{put}
 use Rattle.layout.specs.Slots.{Slot.CENTRE, Slot.SCALE, Has, Room, vars, rest, start, then, words}
 use Rattle.layout.specs.declared.Sizes.{Sizes}
 use Rattle.layout.specs.declared.Places.{Places}
 use Rattle.design.specs.Statistics.{centresOf, scalesOf, statisticsStore}
+use Rattle.design.proofs.Lengths.{length-centres, length-scales}
 use Rattle.design.proofs.statistics.statistics.Statement.{statement}
 use Rattle.design.proofs.statistics.statistics.Tie as tie
-
-length-centres : (normalise : Bool) (m : List Float) (n p : ℕ) → length (centresOf normalise m n p) ≡ p
-unfolding centresOf
-length-centres true m n p = length-tab _ p
-length-centres false m n p = length-fill _ p
-
-length-scales : (normalise : Bool) (m : List Float) (n p : ℕ) → length (scalesOf normalise m n p) ≡ p
-unfolding scalesOf
-length-scales true m n p = length-tab _ p
-length-scales false m n p = length-fill _ p
 
 stored : (sh : Sizes) (l : Places) (normalise : Bool) (m s : List Float) → Room sh l s → (t u : List Float)
     → t ≡ put s (l .centre) (centresOf normalise m (sh .n) (sh .p)) → u ≡ put t (l .scale) (scalesOf normalise m (sh .n) (sh .p))

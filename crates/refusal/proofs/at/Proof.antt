@@ -1,8 +1,8 @@
--- `bg_solver::lone::at` meets its contract. Assumes nothing.
+-- `refusal::at` meets its contract. Assumes nothing.
 use native.Mathlib.Omega.{arith}
 use borrow.Author.Needs.{needs}
-use Rattle.bg_solver.proofs.lone.at.Statement.{statement}
-use Rattle.bg_solver.proofs.lone.at.Tie as tie
+use Rattle.refusal.proofs.at.Statement.{statement}
+use Rattle.refusal.proofs.at.Tie as tie
 
 enum-known-f : tie.Need-enum-known-f
 enum-known-f c = search needs

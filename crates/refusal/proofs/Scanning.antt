@@ -15,7 +15,7 @@ use Rattle.arrays.specs.Sums.{_!_}
 use Rattle.arrays.specs.Scan.{firstInfinite}
 use Rattle.arrays.specs.declared.scan.Found.{Found}
 use Rattle.arrays.specs.declared.scan.Found.the-variants.{Clean, At}
-use Rattle.bg_solver.specs.Solve.{Near}
+use Rattle.refusal.specs.Checks.{Near}
 
 -- what the first scan found, or else the second
 abbrev pub orElse : Found → Found → Found
@@ -45,6 +45,11 @@ scan-further k i (fin s m e ∷ a) =
     let l : k + i + 1 ≡ k + (i + 1) = omega arith in
     rw l (scan-further k (i + 1) a)
 
+pub scan-from : (k : ℕ) (a : List Float) → firstInfinite (0 + k) a ≡ further k (firstInfinite 0 a)
+scan-from k a =
+    let e : 0 + k ≡ k + 0 = omega arith in
+    rw e (scan-further k 0 a)
+
 -- a find is within the list
 abbrev pub Below : Found → ℕ → Type 0
 Below Clean n = Unit
@@ -60,7 +65,7 @@ scan-below i (fin s m e ∷ a) =
     rw (← l) (scan-below (i + 1) a)
 
 -- a find in a slice, which has less than 2 ^ 60 elements
-pub near : (f : Found) (k : ℕ) (a : List Float) (from : ℕ) → f ≡ firstInfinite 0 a → f ≡ At k → length a < 2 ^ 60 → from ≤ 4160 → Near f from
+pub near : (f : Found) (k : ℕ) (a : List Float) (from : ℕ) → f ≡ firstInfinite 0 a → f ≡ At k → length a < 2 ^ 60 → from ≤ 1048576 → Near f from
 near f k a from e t l h =
     let b = rw (sym e ∙ t) at (scan-below 0 a) in
     rw t (h, omega arith)
