@@ -1,0 +1,2 @@
+pub mod ByStage
+pub mod Loop

@@ -1,0 +1,68 @@
+// One step of a paused fit, and steps up to a budget.
+use layout::Places;
+use layout::Sizes;
+use settings::Terms;
+use stages::Paused;
+use stages::Stage;
+use stages::Stepped;
+use stages::opening_step;
+use stages::searching_step;
+use stages::solving_step;
+ghost use Prim.Native.Nat.{_≤_};
+ghost use Rattle.pause.specs.Progress.{run};
+ghost use Rattle.pause.specs.Paused.{step};
+ghost use Rattle.design.specs.Mode.{Held};
+ghost use Rattle.layout.specs.Slots.{vars, rest};
+ghost use Rattle.lasso_optimizer.specs.Fit.{parts};
+ghost use Rattle.stages.specs.Stage.{stateOf, Did, Sane};
+
+pub fn one_step(
+    m: &[f64],
+    sh: Sizes,
+    tm: Terms,
+    tol: f64,
+    limit: u64,
+    s: &mut [f64],
+    l: Places,
+    rec: Paused,
+) -> Stepped
+    requires { ⌜ Held sh l (now m) (now s) × (Sane limit rec × (limit ≤ 1000)) ⌝ }
+    ensures { λ o. ⌜ Did sh (rest sh (now (s .entry))) (step (parts sh tm tol (now (m .entry))) limit (stateOf rec (vars sh (now (s .entry))))) o (now (s .exit)) ⌝ }
+{
+    let stage = rec.stage;
+    let c = rec.counts;
+    let a = rec.scalars;
+    match stage {
+        Stage::Opening => opening_step(m, sh, tm, tol, limit, s, l, rec.round, c, a),
+        Stage::Solving(k) => solving_step(m, sh, tm, tol, limit, s, l, rec.round, k, c, a),
+        Stage::Searching(j) => searching_step(m, sh, tm, tol, limit, s, l, rec.round, j, c, a),
+        Stage::Ended => Stepped::Going(rec),
+    }
+}
+
+pub fn run_steps(
+    m: &[f64],
+    sh: Sizes,
+    tm: Terms,
+    tol: f64,
+    limit: u64,
+    s: &mut [f64],
+    l: Places,
+    rec: Paused,
+    budget: u64,
+) -> Stepped
+    requires { ⌜ Held sh l (now m) (now s) × (Sane limit rec × (limit ≤ 1000)) ⌝ }
+    ensures { λ o. ⌜ Did sh (rest sh (now (s .entry))) (run (step (parts sh tm tol (now (m .entry))) limit) budget (stateOf rec (vars sh (now (s .entry))))) o (now (s .exit)) ⌝ }
+{
+    let mut cur = rec;
+    let mut left = budget;
+    while 0 < left {
+        let o = one_step(m, sh, tm, tol, limit, s, l, cur);
+        let Stepped::Going(next) = o else {
+            return o;
+        };
+        cur = next;
+        left = left - 1;
+    }
+    Stepped::Going(cur)
+}
