@@ -46,7 +46,7 @@ module _ (sh : Sizes) (tm : Terms) (tol : Float) (m : List Float) (M : ℕ) (v :
   counts-within b bs = counts-at-pauses (parts sh tm tol m) M (lit≤ tt) (lit≤ tt) b bs first
 
   module _ (some : 0 < sh .p) (few : sh .p ≤ 64) (rounds : M ≤ 1000) (positive : T (unsigned (tm .lambda))) (zeros : v W ≡ fillOf plus0 (sh .p)) (ones : v U ≡ fillOf one (sh .p)) where
-    first-kept : KeptData (sh .p) 0 first
+    pub first-kept : KeptData (sh .p) 0 first
     unfolding fresh
     first-kept =
         subst (λ (ws : List Float). KeptAt (sh .p) 0 (startT (sh .p) (tm .lambda)) ws (v U)) (sym zeros)

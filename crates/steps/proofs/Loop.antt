@@ -8,13 +8,12 @@ use lib.ListN.{length}
 use lib.Ieee.{Float}
 use Rattle.pause.specs.Progress.{Progress, over, going, then, run, Always, Any}
 use Rattle.pause.specs.Parts.{Counts, round+, solver+, trial+, End, end}
-use Rattle.pause.specs.Paused.{State, opening, solving, searching, dataOf, step}
+use Rattle.pause.specs.Paused.{State, dataOf, step}
 use Rattle.pause.proofs.Cases.{Cases, step-cases}
 use Rattle.settings.specs.declared.Terms.{Terms}
 use Rattle.layout.specs.declared.Sizes.{Sizes}
 use Rattle.layout.specs.declared.Places.{Places}
 use Rattle.layout.specs.Slots.{Room, Store, Has, vars, rest, start, vars-of, rest-of, words}
-use Rattle.lasso_optimizer.specs.declared.Scalars.{Scalars}
 use Rattle.lasso_optimizer.specs.Data.{Data, held, storeOf}
 use Rattle.lasso_optimizer.specs.Fit.{parts}
 use Rattle.stages.specs.declared.Paused.{Paused}
@@ -24,40 +23,11 @@ use Rattle.stages.specs.declared.Stage.{Stage}
 use Rattle.stages.specs.declared.Stage.the-variants.{Opening, Solving, Searching, Ended}
 use Rattle.stages.specs.declared.Stepped.{Stepped}
 use Rattle.stages.specs.declared.Stepped.the-variants.{Going, Over}
-use Rattle.stages.specs.Stage.{Did, pausedAt, countsOf, answer, leftData, pausedOf, stateOf, stateAt, Sane, SaneAt}
+use Rattle.stages.specs.Stage.{Did, countsOf, answer, leftData, pausedOf, stateOf, stateAt, Sane, SaneAt}
+use Rattle.stages.proofs.Back.{state-back, paused-back, store-back}
 
 sub-one : (n : ℕ) → suc n - 1 ≡ n
 sub-one n = omega arith
-
--- a state is what its record and store say
-state-back : (x : State Data) → stateOf (pausedOf x) (storeOf (dataOf x)) ≡ x
-unfolding stateOf pausedOf dataOf
-state-back (opening r c (held a v)) = refl
-state-back (solving r k c (held a v)) = refl
-state-back (searching r j c (held a v)) = refl
-
-paused-at : (g : Stage) (M r : ℕ) (c : Counts) (a : Scalars) (v : Store) → SaneAt g M r c → pausedOf (stateAt g r c (held a v)) ≡ pausedAt g r c a
-unfolding pausedOf
-paused-at Opening M r c a v h = refl
-paused-at (Solving k) M r c a v h = refl
-paused-at (Searching j) M r c a v h = refl
-paused-at Ended M r c a v h = absurd h
-
--- a record that is not ended is what its state says
-paused-back : (M : ℕ) (a : Paused) (v : Store) → Sane M a → pausedOf (stateOf a v) ≡ a
-unfolding stateOf Sane
-paused-back M a v h = paused-at (a .stage) M (a .round) (countsOf (a .counts)) (a .scalars) v h
-
-store-at : (g : Stage) (r : ℕ) (c : Counts) (a : Scalars) (v : Store) → storeOf (dataOf (stateAt g r c (held a v))) ≡ v
-unfolding dataOf
-store-at Opening r c a v = refl
-store-at (Solving k) r c a v = refl
-store-at (Searching j) r c a v = refl
-store-at Ended r c a v = refl
-
-store-back : (a : Paused) (v : Store) → storeOf (dataOf (stateOf a v)) ≡ v
-unfolding stateOf
-store-back a v = store-at (a .stage) (a .round) (countsOf (a .counts)) (a .scalars) v
 
 going-not-over : {a : Paused} {w : How} {c : CountsE} → Going a ≡ Over w c → ⊥
 going-not-over q = let z : _≡_ {A = ℕ} 0 1 = cc in omega arith

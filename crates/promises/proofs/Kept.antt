@@ -1,0 +1,127 @@
+-- What holds at every pause, whatever the budgets, and at the unbroken fit's end: the weights within their bounds, and the counts within theirs. Assumes nothing.
+use Prim.Native.Nat.{ℕ, _+_, _*_, _<_, _≤_}
+use mathlib.Core.Path.{_≡_, refl, ap, sym, subst, _∙_}
+use mathlib.Core.Bool.{true}
+use mathlib.Core.List.{List}
+use lib.Dec.{T}
+use lib.Ieee.{Float}
+use lib.Ieee.Scale.{finite}
+use lib.Ieee.Positive.{positive}
+use Rattle.arrays.specs.Part.{part}
+use Rattle.arrays.specs.Sums.{_!_}
+use Rattle.settings.specs.declared.Settings.{Settings}
+use Rattle.layout.specs.declared.Sizes.{Sizes}
+use Rattle.layout.specs.Slots.{Slot, Store, off, vars-of}
+use Rattle.layout.specs.Slots.{Slot.W, Slot.U}
+use Rattle.layout.specs.Need.{sizesOf}
+use Rattle.bound.specs.Kept.{Inside, Kept as KeptAt}
+use Rattle.bound.proofs.Barrier.{bounded-finite}
+use Rattle.pause.specs.Progress.{total}
+use Rattle.pause.specs.Parts.{How, Counts, made, End, end}
+use Rattle.pause.specs.Paused.{State, opening, solving, searching, countsOf, dataOf}
+use Rattle.pause.specs.Bounds.{EndWithin}
+use Rattle.pause.specs.Invariant.{EndKept}
+use Rattle.pause.proofs.Unbroken.{unbroken-counts}
+use Rattle.pause.proofs.Kept.{unbroken-kept}
+use Rattle.lasso_optimizer.specs.declared.Scalars.{Scalars}
+use Rattle.lasso_optimizer.specs.Data.{Data, held, scalarsOf, storeOf}
+use Rattle.lasso_optimizer.specs.Fit.{parts, optimized}
+use Rattle.pausing.specs.Kept.{KeptData}
+use Rattle.stages.specs.declared.Paused.{Paused}
+use Rattle.stages.specs.Stage.{countsBack, pausedOf}
+use Rattle.checks.proofs.Laws.{sizes-known}
+use Rattle.records.specs.Records.{possibleOf}
+use Rattle.elastic_net.specs.declared.Resumed.{Resumed}
+use Rattle.elastic_net.specs.declared.Started.the-variants.{Ready as ReadyS}
+use Rattle.elastic_net.specs.ElasticNet.{pending, said, fitOf}
+use Rattle.promises.specs.Chain.{Starts, Chain}
+use Rattle.promises.proofs.Calls.{partsOf, firstData, some-solves, some-trials, parts-within, start-fits, start-poised}
+use Rattle.promises.proofs.Pauses.{Pause, on-the-way}
+
+-- ---- what a pause's record and data have of its state
+
+of-kept : (p k : ℕ) (d : Data) → KeptData p k d → KeptAt p k (scalarsOf d .t) (storeOf d W) (storeOf d U)
+of-kept p k (held a v) h = h
+
+scalars-are : (z : State Data) → pausedOf z .scalars ≡ scalarsOf (dataOf z)
+unfolding pausedOf dataOf
+scalars-are (opening r c d) = refl
+scalars-are (solving r k c d) = refl
+scalars-are (searching r j c d) = refl
+
+counts-are : (z : State Data) → pausedOf z .counts ≡ countsBack (countsOf z)
+unfolding pausedOf countsOf
+counts-are (opening r c d) = refl
+counts-are (solving r k c d) = refl
+counts-are (searching r j c d) = refl
+
+-- each of p weights is finite and strictly within its finite bound, and t is finite and positive
+pub record Within (p : ℕ) (t : Float) (ws us : List Float) : Type 0 where
+  pub weights : (i : ℕ) → i < p → Inside (ws ! i) (us ! i)
+  pub barrier : T (finite t) × T (positive t)
+
+-- as many steps were made as were given, and the record passes 9: its counts are within their bounds
+pub record CountedAt (M given : ℕ) (a : Paused) : Type 0 where
+  pub steps : a .counts .rounds .0 + a .counts .solver .0 + a .counts .trials .0 ≡ given
+  pub passes : possibleOf M a ≡ true
+
+within-of : (p k : ℕ) (t : Float) (ws us : List Float) → KeptAt p k t ws us → Within p t ws us
+within-of p k t ws us h = record { weights = h .inside; barrier = bounded-finite k t (h .barrier) }
+
+module _ (n p : ℕ) (x y : List Float) (st : Settings) where
+  abbrev sh : Sizes
+  sh = sizesOf n p st
+
+  -- p, not as the sizes have it
+  of-columns : (t : Float) (s : List Float)
+      → Within (sizesOf n p st .p) t (part s (off (sizesOf n p st) W) (sizesOf n p st .p)) (part s (off (sizesOf n p st) U) (sizesOf n p st .p))
+      → Within p t (part s (off (sizesOf n p st) W) p) (part s (off (sizesOf n p st) U) p)
+  of-columns t s h = subst (λ (q : ℕ). Within q t (part s (off sh W) q) (part s (off sh U) q)) (sizes-known n p st .columns) h
+
+  module _ (u : End Data) (e : List Float) (k : ℕ) (a : Paused) (s : List Float) (g : Pause n p x y st u e k a s) where
+    pause-within : Within p (a .scalars .t) (part s (off (sizesOf n p st) W) p) (part s (off (sizesOf n p st) U) p)
+    pause-within =
+        let d = dataOf (g .state) in
+        let b : a .scalars ≡ scalarsOf d = ap (λ (r : Paused). r .scalars) (g .poised .is) ∙ scalars-are (g .state) in
+        let h : Within (sh .p) (scalarsOf d .t) (storeOf d W) (storeOf d U) = within-of _ _ _ _ _ (of-kept _ _ d (g .poised .within .holds)) in
+        of-columns (a .scalars .t) s
+        (subst (λ (c : Scalars). Within (sh .p) (c .t) (part s (off sh W) (sh .p)) (part s (off sh U) (sh .p))) (sym b)
+        (subst (λ (v : Store). Within (sh .p) (scalarsOf d .t) (v W) (v U)) (sym (vars-of sh (g .poised .holds))) h))
+
+    pause-counted : CountedAt (st .rounds) k a
+    unfolding made
+    pause-counted = record {
+      steps = rw (g .poised .is, counts-are (g .state)) (g .poised .leads .counted .steps);
+      passes = rw (g .poised .is) (g .poised .passes);
+    }
+
+  module _ (s s₁ : List Float) (a : Paused) (h : Starts n p x y st s (ReadyS a) s₁) where
+    module _ (bs : List ℕ) (r : Resumed) (w s₂ : List Float) (c : Chain n p x y st bs a s₁ r w s₂) (pend : said (r .answer) ≡ pending) where
+      -- AT EVERY PAUSE the weights in the scratch are within their bounds, and t in the record is finite and positive
+      pub pause-keeps : Within p (r .paused .scalars .t) (part s₂ (off (sizesOf n p st) W) p) (part s₂ (off (sizesOf n p st) U) p)
+      pause-keeps = pause-within _ _ _ (r .paused) s₂ (on-the-way n p x y st s s₁ a h bs r w s₂ c pend)
+
+      -- and the counts add up to the budgets given
+      pub pause-counts : CountedAt (st .rounds) (total bs) (r .paused)
+      pause-counts = pause-counted _ _ _ (r .paused) s₂ (on-the-way n p x y st s s₁ a h bs r w s₂ c pend)
+
+    end-kept : EndKept (KeptData (sizesOf n p st .p)) (fitOf n p x y st)
+    unfolding fitOf optimized countsOf dataOf
+    end-kept =
+        unbroken-kept (partsOf n p x st) (st .rounds) (KeptData (sh .p)) (parts-within n p x y st _ (start-fits n p x y st s s₁ a h)) (some-solves n p x st)
+        (some-trials n p x st) (firstData n p x y st) (start-poised n p x y st s s₁ a h .within .holds)
+
+    -- AT THE UNBROKEN FIT'S END, before the weights are rescaled
+    pub end-keeps : (o : How) (c : Counts) (d : Data) → fitOf n p x y st ≡ end o c d → Within p (scalarsOf d .t) (storeOf d W) (storeOf d U)
+    unfolding EndKept
+    end-keeps o c d q =
+        let k : KeptData (sh .p) (c .rounds) d = rw q at end-kept in
+        subst (λ (m : ℕ). Within m (scalarsOf d .t) (storeOf d W) (storeOf d U)) (sizes-known n p st .columns) (within-of _ _ _ _ _ (of-kept _ _ d k))
+
+  -- THE COUNTS of the unbroken fit: at most M rounds, and for each at most 4,999 solver rounds and 100 trials
+  pub counts-within : (o : How) (c : Counts) (d : Data) → fitOf n p x y st ≡ end o c d
+      → (c .rounds ≤ st .rounds) × (c .solver ≤ 4999 * c .rounds) × (c .trials ≤ 100 * c .rounds)
+  unfolding fitOf optimized EndWithin parts
+  counts-within o c d q =
+      let k = rw q at (unbroken-counts (partsOf n p x st) (st .rounds) (some-solves n p x st) (some-trials n p x st) (firstData n p x y st)) in
+      (k .rounds-in, k .solver-in, k .trials-in)

@@ -1,0 +1,122 @@
+-- The pause theorem on the public contracts. Assumes nothing.
+use Prim.Native.Nat.{ℕ, _+_, _*_, _≤_}
+use native.Mathlib.Nat.{zero-add}
+use native.Mathlib.Omega.{arith}
+use mathlib.Core.Path.{_≡_, refl, ap}
+use mathlib.Core.List.{List, [], _∷_, _++_}
+use lib.Ieee.{Float}
+use Rattle.arrays.specs.Sums.{plus0}
+use Rattle.arrays.specs.Vectors.{fillOf}
+use Rattle.settings.specs.declared.Settings.{Settings}
+use Rattle.settings.specs.Settings.{termsOf}
+use Rattle.layout.specs.Slots.{Store, rest, words}
+use Rattle.layout.specs.Need.{sizesOf}
+use Rattle.pause.specs.Progress.{Progress, over, going, total}
+use Rattle.pause.specs.Parts.{How, Counts, End, end}
+use Rattle.pause.specs.Paused.{State, call, start}
+use Rattle.lasso_optimizer.specs.Data.{Data, storeOf}
+use Rattle.stages.specs.declared.Paused.{Paused}
+use Rattle.stages.specs.Stage.{countsBack, howOf}
+use Rattle.records.specs.Records.{endedOf}
+use Rattle.ending.specs.End.{weightsOf, interceptOf, gone}
+use Rattle.elastic_net.specs.declared.Resumed.{Resumed}
+use Rattle.elastic_net.specs.declared.Started.the-variants.{Ready as ReadyS}
+use Rattle.elastic_net.specs.ElasticNet.{pending, said, Outcome, outcome, endAnswer, endWeights, endOutcome, ending, fitOf}
+use Rattle.promises.specs.Chain.{Starts, Chain, last, more}
+use Rattle.promises.proofs.Calls.{partsOf, firstData, Poised, ended-with, poised-next, early, says-pending, says-ended, start-poised}
+
+-- a state that a record and a scratch are poised in
+pub record Pause (n p : ℕ) (x y : List Float) (st : Settings) (u : End Data) (e : List Float) (k : ℕ) (a : Paused) (s : List Float) : Type 0 where
+  pub state : State Data
+  pub poised : Poised n p x y st u e k state a s
+
+module _ (n p : ℕ) (x y : List Float) (st : Settings) (u : End Data) (e : List Float) where
+  abbrev Called : Type 0
+  Called = Progress (End Data) (State Data)
+
+  abbrev called : ℕ → State Data → Progress (End Data) (State Data)
+  called b z = call (partsOf n p x st) (st .rounds) b z
+
+  -- calls from a state that leads to u end with u, once the budgets suffice
+  chain-ends : (bs : List ℕ) (a : Paused) (s : List Float) (r : Resumed) (w′ s′ : List Float) → Chain n p x y st bs a s r w′ s′
+      → (k : ℕ) (z : State Data) → Poised n p x y st u e k z a s → st .rounds * 5100 ≤ k + total bs
+      → outcome r w′ s′ ≡ ending (sizesOf n p st) (st .normalise) (termsOf st n .gamma) y e u
+  unfolding total
+  chain-ends _ a s r w′ s′ (last {b} {bs} w l c stop) k z g enough = go (called b z) refl
+    where
+      go : (q : Called) → called b z ≡ q → outcome r w′ s′ ≡ ending (sizesOf n p st) (st .normalise) (termsOf st n .gamma) y e u
+      go (over t) q = ended-with n p x y st u e k z a s g w l b r w′ s′ c t q
+      go (going t) q =
+          let none-left : bs ≡ [] = stop (says-pending n p x y st u e k z a s g w l b r w′ s′ c t q) in
+          let few = early n p x y st u e k z a s g w l b r w′ s′ c t q in
+          let m : st .rounds * 5100 ≤ k + (b + total []) = rw none-left at enough in
+          absurd (omega arith)
+  chain-ends _ a s r w′ s′ (more {b} {bs} w l r₁ w₁ s₁ c pend then) k z g enough =
+      go (chain-ends bs (r₁ .paused) s₁ r w′ s′ then (k + b)) (called b z) refl
+    where
+      go : ((t : State Data) → Poised n p x y st u e (k + b) t (r₁ .paused) s₁ → st .rounds * 5100 ≤ k + b + total bs
+          → outcome r w′ s′ ≡ ending (sizesOf n p st) (st .normalise) (termsOf st n .gamma) y e u)
+          → (q : Called) → called b z ≡ q → outcome r w′ s′ ≡ ending (sizesOf n p st) (st .normalise) (termsOf st n .gamma) y e u
+      go rec (over t) q = absurd (says-ended n p x y st u e k z a s g w l b r₁ w₁ s₁ c t q pend)
+      go rec (going t) q = rec t (poised-next n p x y st u e k z a s g w l b r₁ w₁ s₁ c t q) (omega arith)
+
+  -- calls whose last is pending leave a pause, with as many steps made as were given
+  chain-pauses : (bs : List ℕ) (a : Paused) (s : List Float) (r : Resumed) (w′ s′ : List Float) → Chain n p x y st bs a s r w′ s′
+      → (k : ℕ) (z : State Data) → Poised n p x y st u e k z a s → said (r .answer) ≡ pending
+      → Pause n p x y st u e (k + total bs) (r .paused) s′
+  unfolding total
+  chain-pauses _ a s r w′ s′ (last {b} {bs} w l c stop) k z g pend = go (called b z) refl
+    where
+      go : (q : Called) → called b z ≡ q → Pause n p x y st u e (k + (b + total bs)) (r .paused) s′
+      go (over t) q = absurd (says-ended n p x y st u e k z a s g w l b r w′ s′ c t q pend)
+      go (going t) q =
+          let m : k + (b + total []) ≡ k + b = omega arith in
+          rw (stop pend, m) (record { state = t; poised = poised-next n p x y st u e k z a s g w l b r w′ s′ c t q })
+  chain-pauses _ a s r w′ s′ (more {b} {bs} w l r₁ w₁ s₁ c pend₁ then) k z g pend =
+      go (λ t i. chain-pauses bs (r₁ .paused) s₁ r w′ s′ then (k + b) t i pend) (called b z) refl
+    where
+      go : ((t : State Data) → Poised n p x y st u e (k + b) t (r₁ .paused) s₁ → Pause n p x y st u e (k + b + total bs) (r .paused) s′)
+          → (q : Called) → called b z ≡ q → Pause n p x y st u e (k + (b + total bs)) (r .paused) s′
+      go rec (over t) q = absurd (says-ended n p x y st u e k z a s g w l b r₁ w₁ s₁ c t q pend₁)
+      go rec (going t) q =
+          let m : k + (b + total bs) ≡ k + b + total bs = omega arith in
+          rw m (rec t (poised-next n p x y st u e k z a s g w l b r₁ w₁ s₁ c t q))
+
+-- what a fit that is over shows, e being the scratch's excess
+pub record EndsAs (n p : ℕ) (y : List Float) (st : Settings) (e : List Float) (o : How) (c : Counts) (v : Store) (r : Resumed) (w s : List Float) : Type 0 where
+  pub answer : said (r .answer) ≡ endAnswer (howOf o) (interceptOf (sizesOf n p st) (st .normalise) (termsOf st n .gamma) y v) (countsBack c)
+  pub paused : r .paused ≡ endedOf (countsBack c)
+  pub weights : w ≡ endWeights (howOf o) (sizesOf n p st .p) (weightsOf (sizesOf n p st) (st .normalise) (termsOf st n .gamma) v)
+  pub scratch : s ≡ fillOf plus0 (words (sizesOf n p st)) ++ e
+
+module _ (n p : ℕ) (x y : List Float) (st : Settings) (s s₁ : List Float) (a : Paused) (h : Starts n p x y st s (ReadyS a) s₁) where
+  -- THE PAUSE THEOREM: after an accepted start, calls whose budgets add up to 5,100·M at least end with the unbroken fit's outcome:
+  -- its answer, weights and counts, +0 in every needed word of the scratch, and the excess as it was
+  pub pause-theorem : (b : ℕ) (bs : List ℕ) → st .rounds * 5100 ≤ total (b ∷ bs)
+      → (r : Resumed) (w s₂ : List Float) → Chain n p x y st (b ∷ bs) a s₁ r w s₂
+      → outcome r w s₂ ≡ ending (sizesOf n p st) (st .normalise) (termsOf st n .gamma) y (rest (sizesOf n p st) s) (fitOf n p x y st)
+  pause-theorem b bs enough r w s₂ c =
+      chain-ends n p x y st (fitOf n p x y st) (rest (sizesOf n p st) s) (b ∷ bs) a s₁ r w s₂ c 0 (start (firstData n p x y st))
+      (start-poised n p x y st s s₁ a h) (omega arith)
+
+  -- the same in words
+  pub ends-as-unbroken : (b : ℕ) (bs : List ℕ) → st .rounds * 5100 ≤ total (b ∷ bs)
+      → (r : Resumed) (w s₂ : List Float) → Chain n p x y st (b ∷ bs) a s₁ r w s₂ → (o : How) (c : Counts) (d : Data) → fitOf n p x y st ≡ end o c d
+      → EndsAs n p y st (rest (sizesOf n p st) s) o c (storeOf d) r w s₂
+  unfolding ending endOutcome gone
+  ends-as-unbroken b bs enough r w s₂ c o k d q =
+      let t = rw q at (pause-theorem b bs enough r w s₂ c) in
+      record {
+        answer = ap (λ (u : Outcome). u .answer) t;
+        paused = ap (λ (u : Outcome). u .paused) t;
+        weights = ap (λ (u : Outcome). u .weights) t;
+        scratch = ap (λ (u : Outcome). u .scratch) t;
+      }
+
+  -- whatever the budgets, a pending answer is a pause on the way to the unbroken fit's end
+  pub on-the-way : (bs : List ℕ) (r : Resumed) (w s₂ : List Float) → Chain n p x y st bs a s₁ r w s₂ → said (r .answer) ≡ pending
+      → Pause n p x y st (fitOf n p x y st) (rest (sizesOf n p st) s) (total bs) (r .paused) s₂
+  on-the-way bs r w s₂ c pend =
+      rw zero-add at
+      (chain-pauses n p x y st (fitOf n p x y st) (rest (sizesOf n p st) s) bs a s₁ r w s₂ c 0 (start (firstData n p x y st))
+      (start-poised n p x y st s s₁ a h) pend)

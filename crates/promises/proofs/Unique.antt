@@ -1,0 +1,112 @@
+-- Any two outcomes that a contract permits coincide. Assumes nothing.
+use Prim.Native.Nat.{ℕ}
+use mathlib.Core.Path.{_≡_, refl, ap, sym, _∙_}
+use mathlib.Core.Bool.{cond}
+use mathlib.Core.List.{List}
+use lib.Dec.{eqb}
+use lib.Ieee.{Float}
+use Rattle.refusal.specs.declared.Refusal.{Refusal}
+use Rattle.refusal.specs.declared.Refusal.the-variants.{Size, Length, Setting, Scratch, NotFinite, Constant, Search, Tolerance, Record, NoRounds, Version, SheetLength, Flags, Claim, Pair, TooLarge}
+use Rattle.refusal.specs.Refusal.{numberOf, placeOf}
+use Rattle.settings.specs.declared.Settings.{Settings}
+use Rattle.stages.specs.declared.Paused.{Paused}
+use Rattle.elastic_net.specs.declared.Way.the-variants.{Converged, Limit}
+use Rattle.elastic_net.specs.declared.Answer.{Answer}
+use Rattle.elastic_net.specs.declared.Answer.the-variants.{Pending, Done, Refused}
+use Rattle.elastic_net.specs.declared.Resumed.{Resumed}
+use Rattle.elastic_net.specs.declared.Started.{Started}
+use Rattle.elastic_net.specs.declared.Started.the-variants.{Ready as ReadyS, Refused as RefusedS}
+use Rattle.elastic_net.specs.ElasticNet.{Said, pending, converged, limit, refused, said, Outcome, outcome, SaidS, ready, refusedS, saidS, Begun, begun}
+use Rattle.promises.specs.Chain.{Starts, Resumes}
+
+-- ---- 01's words name the enum's case: number and place determine the refusal
+
+refusalOf : ℕ → ℕ → Refusal
+refusalOf k i =
+    cond (eqb k 1) Size
+    (cond (eqb k 2) Length
+    (cond (eqb k 3) Setting
+    (cond (eqb k 4) Scratch
+    (cond (eqb k 5) (NotFinite i)
+    (cond (eqb k 6) (Constant i)
+    (cond (eqb k 7) Search
+    (cond (eqb k 8) Tolerance
+    (cond (eqb k 9) Record
+    (cond (eqb k 10) NoRounds
+    (cond (eqb k 11) Version
+    (cond (eqb k 12) SheetLength (cond (eqb k 13) Flags (cond (eqb k 14) (Claim i) (cond (eqb k 15) (Pair i) TooLarge))))))))))))))
+
+refusal-back : (r : Refusal) → refusalOf (numberOf r) (placeOf r) ≡ r
+unfolding refusalOf
+refusal-back Size = refl
+refusal-back Length = refl
+refusal-back Setting = refl
+refusal-back Scratch = refl
+refusal-back (NotFinite i) = refl
+refusal-back (Constant j) = refl
+refusal-back Search = refl
+refusal-back Tolerance = refl
+refusal-back Record = refl
+refusal-back NoRounds = refl
+refusal-back Version = refl
+refusal-back SheetLength = refl
+refusal-back Flags = refl
+refusal-back (Claim i) = refl
+refusal-back (Pair i) = refl
+refusal-back TooLarge = refl
+
+unsaid : Said → Answer
+unsaid pending = Pending
+unsaid (converged b c) = Done b Converged c
+unsaid (limit b c) = Done b Limit c
+unsaid (refused k i) = Refused (refusalOf k i)
+
+unsaid-said : (a : Answer) → unsaid (said a) ≡ a
+unfolding unsaid
+unsaid-said Pending = refl
+unsaid-said (Done b Converged c) = refl
+unsaid-said (Done b Limit c) = refl
+unsaid-said (Refused r) = ap Refused (refusal-back r)
+
+unsaidS : SaidS → Started
+unsaidS (ready a) = ReadyS a
+unsaidS (refusedS k i) = RefusedS (refusalOf k i)
+
+unsaidS-said : (a : Started) → unsaidS (saidS a) ≡ a
+unfolding unsaidS
+unsaidS-said (ReadyS a) = refl
+unsaidS-said (RefusedS r) = ap RefusedS (refusal-back r)
+
+-- ANSWERS THAT SAY THE SAME are the same
+pub said-same : (a b : Answer) → said a ≡ said b → a ≡ b
+said-same a b q = sym (unsaid-said a) ∙ ap unsaid q ∙ unsaid-said b
+
+pub saidS-same : (a b : Started) → saidS a ≡ saidS b → a ≡ b
+saidS-same a b q = sym (unsaidS-said a) ∙ ap unsaidS q ∙ unsaidS-said b
+
+-- ---- the contracts
+
+-- what two resuming calls answer and leave
+pub record Same (r r′ : Resumed) (w w′ s s′ : List Float) : Type 0 where
+  pub answers : r .answer ≡ r′ .answer
+  pub records : r .paused ≡ r′ .paused
+  pub weights : w ≡ w′
+  pub scratch : s ≡ s′
+
+module _ (n p : ℕ) (x y : List Float) (st : Settings) where
+  pub resume-unique : (a : Paused) (s w : List Float) (b : ℕ) (r r′ : Resumed) (w₁ w₂ s₁ s₂ : List Float)
+      → Resumes n p x y st a s w b r w₁ s₁ → Resumes n p x y st a s w b r′ w₂ s₂ → Same r r′ w₁ w₂ s₁ s₂
+  resume-unique a s w b r r′ w₁ w₂ s₁ s₂ h k =
+      let q : outcome r w₁ s₁ ≡ outcome r′ w₂ s₂ = h ∙ sym k in
+      record {
+        answers = said-same (r .answer) (r′ .answer) (ap (λ (o : Outcome). o .answer) q);
+        records = ap (λ (o : Outcome). o .paused) q;
+        weights = ap (λ (o : Outcome). o .weights) q;
+        scratch = ap (λ (o : Outcome). o .scratch) q;
+      }
+
+  pub start-unique : (s : List Float) (r r′ : Started) (s₁ s₂ : List Float)
+      → Starts n p x y st s r s₁ → Starts n p x y st s r′ s₂ → (r ≡ r′) × (s₁ ≡ s₂)
+  start-unique s r r′ s₁ s₂ h k =
+      let q : begun r s₁ ≡ begun r′ s₂ = h ∙ sym k in
+      (saidS-same r r′ (ap (λ (o : Begun). o .answer) q), ap (λ (o : Begun). o .scratch) q)

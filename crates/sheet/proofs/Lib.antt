@@ -1,0 +1,4 @@
+pub mod Passed
+pub mod Rows
+pub mod Outcomes
+pub mod Laws
