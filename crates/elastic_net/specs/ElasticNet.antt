@@ -13,16 +13,14 @@ use Rattle.refusal.specs.declared.Checked.{Checked}
 use Rattle.refusal.specs.declared.Checked.the-variants.{Fine, Bad}
 use Rattle.refusal.specs.Refusal.{numberOf, placeOf}
 use Rattle.settings.specs.declared.Settings.{Settings}
-use Rattle.settings.specs.declared.Terms.{Terms}
 use Rattle.settings.specs.Settings.{termsOf}
 use Rattle.layout.specs.declared.Sizes.{Sizes}
-use Rattle.layout.specs.Slots.{Slot, Store, vars, rest, flatly}
-use Rattle.layout.specs.Slots.{Slot.W}
+use Rattle.layout.specs.Slots.{Store, vars, rest, flatly}
 use Rattle.layout.specs.Need.{sizesOf}
 use Rattle.pause.specs.Progress.{Progress, over, going}
 use Rattle.pause.specs.Parts.{none, End, end}
 use Rattle.pause.specs.Paused.{State, dataOf, call}
-use Rattle.lasso_optimizer.specs.Data.{Data, held, storeOf}
+use Rattle.lasso_optimizer.specs.Data.{Data, storeOf}
 use Rattle.lasso_optimizer.specs.Fit.{parts, fresh, optimized}
 use Rattle.stages.specs.declared.Counts.{Counts}
 use Rattle.stages.specs.declared.Paused.{Paused}
@@ -34,7 +32,6 @@ use Rattle.checks.specs.Checks.{limitsOf, startValues}
 use Rattle.records.specs.Records.{possibleOf, endedOf}
 use Rattle.beginning.specs.Start.{startStore}
 use Rattle.ending.specs.End.{weightsOf, interceptOf, gone}
-use Rattle.elastic_net.specs.declared.Way.{Way}
 use Rattle.elastic_net.specs.declared.Way.the-variants.{Converged as ConvergedW, Limit as LimitW}
 use Rattle.elastic_net.specs.declared.Answer.{Answer}
 use Rattle.elastic_net.specs.declared.Answer.the-variants.{Pending as PendingA, Done as DoneA, Refused as RefusedA}

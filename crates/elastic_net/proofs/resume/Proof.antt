@@ -1,5 +1,6 @@
 -- `elastic_net::resume` meets its contract. Assumes nothing.
 use mathlib.Core.Path.{sym, _∙_}
+use native.Mathlib.Omega.{arith}
 use borrow.Author.Needs.{needs}
 use borrow.Author.Tests.{not-true, not-false}
 use lib.ListN.{length}
@@ -38,7 +39,7 @@ returns c =
     (c .before .enum-told2 .given .1) (c .unchanged .ensures)
 
 possible-requires : tie.Need-possible-requires
-possible-requires c κs = few-rounds (passed c)
+possible-requires c κs = omega (arith, few-rounds (passed c))
 
 unchanged-requires-2 : tie.Need-unchanged-requires-2
 unchanged-requires-2 c κs = tt

@@ -85,7 +85,9 @@ begin-requires c κs =
     (begins q (c .before .before .before .place .ensures) a, (c .need .ensures, a .targets ∙ sym (known a q .rows)))
 
 fresh-scalars-requires : tie.Need-fresh-scalars-requires
-fresh-scalars-requires c κs = omega (arith, passed (checked (sized (c .before .before .before))) .columns)
+fresh-scalars-requires c κs =
+    let a = passed (checked (sized (c .before .before .before))) in
+    omega arith
 
 first-requires : tie.Need-first-requires
 first-requires c κs = tt
