@@ -1,0 +1,4 @@
+mod Writes
+mod Digits
+mod Lines
+mod Corners
