@@ -1,0 +1,4 @@
+pub mod Words
+mod Writing
+mod Telling
+mod Calls

@@ -1,0 +1,46 @@
+-- What an answer says, case by case. Assumes nothing.
+use mathlib.Core.Path.{_≡_, refl}
+use mathlib.Core.Bool.{false, not}
+use Prim.Native.Nat.{ℕ, zero, suc}
+use lib.Dec.{eqb}
+use lib.Ieee.{Float}
+use borrow.Author.Tests.{ne-eqb}
+use Rattle.refusal.specs.declared.Refusal.{Refusal}
+use Rattle.refusal.specs.Refusal.{numberOf}
+use Rattle.stages.specs.declared.Counts.{Counts}
+use Rattle.stages.specs.declared.Stage.the-variants.{Ended}
+use Rattle.elastic_net.specs.declared.Way.{Way}
+use Rattle.elastic_net.specs.declared.Way.the-variants.{Converged, Limit}
+use Rattle.elastic_net.specs.declared.Answer.{Answer}
+use Rattle.elastic_net.specs.declared.Answer.the-variants.{Done, Refused}
+use Rattle.elastic_net.specs.ElasticNet.{said}
+use Rattle.c_api.specs.declared.Told.{Told}
+use Rattle.c_api.specs.Words.{bits, stageFrom, keeps}
+use Rattle.c_api.specs.Calls.{toldOf, wayOf}
+
+pub unknown : (k i : ℕ) → (k ≡ 0 → ⊥) → (k ≡ 1 → ⊥) → (k ≡ 2 → ⊥) → Ended ≡ stageFrom k i
+unknown zero i a b c = absurd (a refl)
+unknown (suc zero) i a b c = absurd (b refl)
+unknown (suc (suc zero)) i a b c = absurd (c refl)
+unknown (suc (suc (suc k))) i a b c = refl
+
+done : (b : Float) (w : Way) (c : Counts) → _≡_ {A = Told} (record { kind = wayOf w; number = 0; place = 0; last = bits b }) (toldOf (said (Done b w c)))
+done b Converged c = refl
+done b Limit c = refl
+
+pub done-told : {a : Answer} {b : Float} {w : Way} {c : Counts} {k l : ℕ} → a ≡ Done b w c → k ≡ wayOf w → l ≡ bits b
+    → _≡_ {A = Told} (record { kind = k; number = 0; place = 0; last = l }) (toldOf (said a))
+done-told {a} {b} {w} {c} q ek el = rw (q, ek, el) (done b w c)
+
+written : (b : Float) (w : Way) (c : Counts) → false ≡ keeps (said (Done b w c))
+written b Converged c = refl
+written b Limit c = refl
+
+pub done-written : {a : Answer} {b : Float} {w : Way} {c : Counts} → a ≡ Done b w c → false ≡ keeps (said a)
+done-written {a} {b} {w} {c} q = rw q (written b w c)
+
+pub search-written : {a : Answer} {r : Refusal} {k : ℕ} → a ≡ Refused r → k ≡ numberOf r → k ≡ 7 → false ≡ keeps (said a)
+search-written q e h = rw (q, ← e, h)
+
+pub others : {a : Answer} {r : Refusal} {k : ℕ} → a ≡ Refused r → k ≡ numberOf r → (k ≡ 7 → ⊥) → not (eqb k 8) ≡ keeps (said a)
+others {k = k} q e h = rw (q, ← e, ne-eqb k 7 h)

@@ -1,0 +1,49 @@
+-- `c_api::xangoravit_predict` meets its contract. Assumes nothing.
+use Rattle.c_api.proofs.Calls.{predict-not-due, predict-due}
+use Rattle.c_api.proofs.xangoravit_predict.Statement.{statement}
+use Rattle.c_api.proofs.xangoravit_predict.Tie as tie
+
+returns : tie.Need-returns
+returns c =
+    let g = c .before .before .before .before .before .args in
+    predict-not-due (g .n) (g .p) (g .x .now) (g .w .now) (g .b) (g .out .now) (g .answer .now) (c .if1 .taken)
+
+predict-requires : tie.Need-predict-requires
+predict-requires c κs = tt
+
+predicted-requires : tie.Need-predicted-requires
+predicted-requires c κs = tt
+
+no-counts-requires : tie.Need-no-counts-requires
+no-counts-requires c κs = tt
+
+write-answer-requires : tie.Need-write-answer-requires
+write-answer-requires c κs = c .before .before .before .before .before .before .before .if1 .left
+
+same-length : tie.Need-same-length
+same-length c = c .before .before .before .before .before .before .before .before .predict .kept .1 .1 .1 .1 .1 .0
+
+same-length-2 : tie.Need-same-length-2
+same-length-2 c = c .before .before .write-answer .kept .1 .1 .0
+
+returns-2 : tie.Need-returns-2
+returns-2 c =
+    let a = c .before .before .before .before .before in
+    let r = a .before .before .before in
+    let e = r .before .before in
+    let g = e .before .before .before .before .before .args in
+    predict-due (g .n) (g .p) (g .x .now) (g .w .now) (g .b) (g .out .now) (g .answer .now) (e .if1 .left) (r .predict .ensures) (a .predicted .ensures)
+    (c .before .before .before .before .no-counts .ensures) (c .before .before .write-answer .ensures)
+
+pub xangoravit-predict-spec : {M : Type 1} → statement M
+xangoravit-predict-spec =
+    tie.close
+    (tie.spec
+    returns
+    predict-requires
+    predicted-requires
+    no-counts-requires
+    write-answer-requires
+    same-length
+    same-length-2
+    returns-2)
