@@ -82,6 +82,13 @@ pub fn scaled(x: &Matrix, y: &Vec<f64>, means: &[f64], deviations: &[f64], l2: f
     Net::augment_x_and_y(&scaled, y, l2).0
 }
 
+/// Weights, then the intercept, of a whole fit that normalises.
+pub fn whole(x: &Matrix, y: &Vec<f64>, alpha: f64, l1_ratio: f64, lazy_normalization: bool) -> Vec<f64> {
+    let parameters = ElasticNetParameters { alpha, l1_ratio, normalize: true, tol: 1e-4, max_iter: 1000, lazy_normalization };
+    let net = Net::fit(x, y, parameters).unwrap();
+    net.coefficients().iterator(0).chain([net.intercept()]).copied().collect()
+}
+
 pub struct Lazy<'a>(LazyDesign<'a, f64, Matrix>);
 
 impl<'a> Lazy<'a> {

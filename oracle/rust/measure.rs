@@ -97,6 +97,12 @@ fn by_rows(m: Matrix) -> Vec<f64> {
     m.iterator(0).copied().collect()
 }
 
+/// Targets of a fit: the matrix times w, and a tenth of the numbers drawn.
+fn targets(q: &Problem) -> Vec<f64> {
+    let of_row = |i: usize| (0..q.w.len()).fold(0.0, |sum, j| sum + q.x.get((i, j)) * q.w[j]);
+    (0..q.y.len()).map(|i| of_row(i) + 0.1 * q.y[i]).collect()
+}
+
 /// Solver rounds: weights within bounds of 1, t = 1, the Gram of the matrix as it is, a start of 0.
 fn rounds(q: &Problem, plan: &mut Plan) -> Vec<f64> {
     let (mut d1, mut d2, mut prb, mut prs) = (vec![], vec![], vec![], vec![]);
@@ -124,6 +130,10 @@ fn piece(what: &str, q: &Problem, plan: &mut Plan) -> Result<Vec<f64>, String> {
     let lazy = || inside::Lazy::new(&q.x, means.clone(), deviations.clone(), q.l2);
     Ok(match what {
         "round" => rounds(q, plan),
+        "fit-eager" | "fit-lazy" => {
+            let y = targets(q);
+            plan.repeat(|| inside::whole(black_box(&q.x), black_box(&y), ALPHA, L1_RATIO, what == "fit-lazy"))
+        }
         "statistics" => {
             let (a, b) = plan.repeat(|| inside::statistics(black_box(&q.x)));
             [a, b].concat()

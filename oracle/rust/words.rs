@@ -1,7 +1,8 @@
 //! The files: words of 16 hex digits with one byte after each, records with their length in front.
 use std::fs;
 
-pub const LONGEST: u64 = 16_384;
+/// Above every problem of 01's sizes with its answer. Stored records are shorter: `store` sees to that.
+pub const LONGEST: u64 = 1 << 19;
 const NAN: u64 = 0x7ff8_0000_0000_0000;
 
 struct Reader<'a> {

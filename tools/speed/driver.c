@@ -15,8 +15,13 @@ extern size_t measure_lazy(size_t what, const double *m, size_t m_len, const dou
 extern size_t measure_eager(size_t what, const double *m, size_t m_len, const double *given, size_t given_len, size_t n, size_t p, double alpha, double l1_ratio,
                             size_t count, double *s, size_t s_len);
 
+extern uint64_t xangoravit_start(size_t n, size_t p, const double *x, size_t x_len, const double *y, size_t y_len, const uint64_t *settings, size_t settings_len, double *s,
+                                 size_t s_len, uint64_t *rec, size_t rec_len, uint64_t *answer, size_t answer_len);
+extern uint64_t xangoravit_resume(size_t n, size_t p, const double *x, size_t x_len, const double *y, size_t y_len, const uint64_t *settings, size_t settings_len, uint64_t *rec,
+                                  size_t rec_len, double *s, size_t s_len, double *w, size_t w_len, uint64_t budget, uint64_t *answer, size_t answer_len);
+
 static const double ALPHA = 0.1, L1_RATIO = 0.5, TOL = DBL_MIN;
-static const size_t PANEL_ROWS = 256, PANEL_COLS = 32, WORDS = 289536; // the Rust's panels; the most that a fit needs
+static const size_t PANEL_ROWS = 256, PANEL_COLS = 32, WORDS = 289536 + 65; // the Rust's panels; the most that a fit needs, and its result
 
 static void fail(const char *why) {
     fprintf(stderr, "driver: %s\n", why);
@@ -49,6 +54,7 @@ static double *numbers(size_t count) {
 struct problem {
     size_t n, p;
     double *x;       // n by p
+    double *y;       // n: of a whole fit
     double *vectors; // p, then n + p
     double *gram;    // p by p
     double *given;   // d1, d2, prb, prs, dxu, grad
@@ -80,15 +86,20 @@ static struct problem problem(size_t n, size_t p) {
     struct problem q = {.n = n, .p = p};
     state = n * 1000 + p;
     q.x = numbers(n * p);
-    free(numbers(n)); // targets: the Rust's augmentation takes them along
+    q.y = numbers(n);
     q.vectors = numbers(n + 2 * p);
+    for (size_t i = 0; i < n; i++) {
+        double sum = 0.0;
+        for (size_t j = 0; j < p; j++) sum += q.x[i * p + j] * q.vectors[j];
+        q.y[i] = sum + 0.1 * q.y[i];
+    }
     double *grad = numbers(2 * p);
     newton(&q, grad);
     free(grad);
     return q;
 }
 
-enum side { ROUND, LAZY, EAGER };
+enum side { ROUND, LAZY, EAGER, FIT };
 
 static const struct piece {
     const char *name;
@@ -97,12 +108,33 @@ static const struct piece {
 } pieces[] = {
     {"round", ROUND, 1}, {"lazy-gram", LAZY, 3}, {"lazy-rows", LAZY, 4}, {"lazy-columns", LAZY, 5}, {"statistics", EAGER, 1},
     {"scale", EAGER, 2}, {"ab", EAGER, 3}, {"eager-rows", EAGER, 4}, {"eager-columns", EAGER, 5},
+    {"fit-eager", FIT, 0}, {"fit-lazy", FIT, 1},
 };
+
+static uint64_t bits_of(double x) {
+    uint64_t bits;
+    memcpy(&bits, &x, sizeof bits);
+    return bits;
+}
+
+// Whole fits that normalise, each started anew and resumed once. Weights and intercept go behind the scratch that a fit may need.
+static size_t fit(int lazy, const struct problem *q, size_t count, double *s, size_t words) {
+    size_t n = q->n, p = q->p, lent = words - p - 1;
+    uint64_t settings[8] = {bits_of(ALPHA), bits_of(L1_RATIO), bits_of(1e-4), 1000, PANEL_ROWS, PANEL_COLS, 1, lazy}, rec[16], answer[7];
+    double *w = s + lent;
+    for (size_t i = 0; i < count; i++) {
+        if (xangoravit_start(n, p, q->x, n * p, q->y, n, settings, 8, s, lent, rec, 16, answer, 7)) return 0;
+        if (xangoravit_resume(n, p, q->x, n * p, q->y, n, settings, 8, rec, 16, s, lent, w, p, UINT64_MAX, answer, 7)) return 0;
+    }
+    memcpy(w + p, answer + 6, sizeof *w);
+    return lent;
+}
 
 static size_t call(enum side side, size_t what, const struct problem *q, size_t count, double *s, size_t words) {
     size_t n = q->n, p = q->p, vectors = n + 2 * p;
     switch (side) {
     case ROUND: return measure_round(q->gram, p * p, q->given, 8 * p, p, TOL, count, s, words);
+    case FIT: return fit(what, q, count, s, words);
     case LAZY: return measure_lazy(what, q->x, n * p, q->vectors, vectors, n, p, ALPHA, L1_RATIO, PANEL_ROWS, PANEL_COLS, count, s, words);
     default: return measure_eager(what, q->x, n * p, q->vectors, vectors, n, p, ALPHA, L1_RATIO, count, s, words);
     }
@@ -110,14 +142,14 @@ static size_t call(enum side side, size_t what, const struct problem *q, size_t 
 
 // What a piece finds in the scratch: nothing; statistics and vectors; these and the stored design.
 static int ready(const struct piece *of, const struct problem *q, double *s, size_t words) {
-    if (of->side == ROUND) return 1;
+    if (of->side == ROUND || of->side == FIT) return 1;
     if (!call(of->side, 0, q, 1, s, words)) return 0;
     return of->side == LAZY || of->what <= 2 || call(EAGER, 2, q, 1, s, words);
 }
 
 static size_t length(const struct piece *of, size_t n, size_t p) {
     size_t lengths[] = {0, 2 * p, (n + p) * p, p * p, n + p, p};
-    return of->side == ROUND ? 2 * p : lengths[of->what];
+    return of->side == ROUND ? 2 * p : of->side == FIT ? p + 1 : lengths[of->what];
 }
 
 static uint64_t now(void) {
@@ -128,11 +160,7 @@ static uint64_t now(void) {
 
 static uint64_t sum_of(const double *values, size_t count) {
     uint64_t sum = 0;
-    for (size_t i = 0; i < count; i++) {
-        uint64_t bits;
-        memcpy(&bits, values + i, sizeof bits);
-        sum = ((sum << 5 | sum >> 59) ^ bits) * 0x9e3779b97f4a7c15;
-    }
+    for (size_t i = 0; i < count; i++) sum = ((sum << 5 | sum >> 59) ^ bits_of(values[i])) * 0x9e3779b97f4a7c15;
     return sum;
 }
 

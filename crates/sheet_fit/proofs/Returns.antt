@@ -1,0 +1,177 @@
+-- A lemma for each return: what a callee wrote is the text of the caller's answer. Assumes nothing.
+use mathlib.Core.Path.{_≡_, refl, sym, ap, _∙_}
+use mathlib.Core.Bool.{Bool, true, false, cond}
+use mathlib.Core.List.{List, [], _∷_}
+use Prim.Native.Nat.{ℕ, zero, suc, _-_, _*_, _≤_, _<_}
+use native.Mathlib.Nat.{mul-le-mul}
+use native.Mathlib.Omega.{arith}
+use borrow.Author.Tests.{lt-ltb, le-ltb, le-leb, lt-leb}
+use lib.Dec.{ltb}
+use lib.ListN.{length, take, replicate, length-replicate, getD-replicate}
+use lib.Seq.{ext-getD}
+use lib.Ieee.{Float}
+use Rattle.arrays.specs.Part.{tab, length-tab, getD-tab}
+use Rattle.arrays.specs.Sums.{plus0}
+use Rattle.arrays.specs.Vectors.{fillOf}
+use Rattle.refusal.specs.declared.Refusal.{Refusal}
+use Rattle.refusal.specs.declared.Refusal.the-variants.{TooLarge}
+use Rattle.refusal.specs.declared.Checked.{Checked}
+use Rattle.refusal.specs.declared.Checked.the-variants.{Fine, Bad}
+use Rattle.settings.specs.declared.Settings.{Settings}
+use Rattle.whole_fit.specs.Fit.{wholeOf}
+use Rattle.stages.specs.declared.Counts.{Counts}
+use Rattle.elastic_net.specs.declared.Way.{Way}
+use Rattle.elastic_net.specs.declared.Way.the-variants.{Converged as ConvergedW, Limit as LimitW}
+use Rattle.elastic_net.specs.declared.Answer.{Answer}
+use Rattle.elastic_net.specs.declared.Answer.the-variants.{Pending as PendingA, Done as DoneA, Refused as RefusedA}
+use Rattle.elastic_net.specs.declared.Resumed.{Resumed}
+use Rattle.elastic_net.specs.ElasticNet.{Outcome, outcome, said}
+use Rattle.answer_text.specs.declared.Ending.{Ending}
+use Rattle.answer_text.specs.declared.Ending.the-variants.{Converged, Limit}
+use Rattle.answer_text.specs.Text.{Written, Written.written, laid, doneText, doneOf}
+use Rattle.sheet.specs.declared.Header.{Header}
+use Rattle.sheet.specs.declared.Read.{Read}
+use Rattle.sheet.specs.declared.Read.the-variants.{Sheet, Refused}
+use Rattle.sheet.specs.Sheet.{nOf, pOf, headerCheck, rowsFrom, roomCheck, headerOf, matrixOf, targetsOf, headerRead, headed, byCheck, sheetOf}
+use Rattle.sheet.specs.Sheet.{Outcome as SheetOutcome, Outcome.outcome as sheet-outcome}
+use Rattle.sheet_fit.specs.SheetFit.{refusalText, bitsOf, endedText, answerText, wholeText, fitText, readText, sizedText, sheetText}
+
+-- ---- what was written is another's text
+
+pub same-text : {k : Written} {t u : List ℕ} (out : List ℕ) → t ≡ u → k ≡ laid t out → k ≡ laid u out
+same-text out e h = h ∙ ap (λ (l : List ℕ). laid l out) e
+
+pub done-few : (e : Ending) (r s t x : ℕ) (ws out : List ℕ) → length ws ≤ 16 → doneOf e r s t x ws out ≡ laid (doneText e r s t x ws) out
+unfolding doneOf
+done-few e r s t x ws out l = rw (le-ltb 64 (length ws) (omega arith))
+
+-- no text, whatever is lent
+pub nothing-laid : (out : List ℕ) → written 0 out ≡ laid [] out
+unfolding laid
+nothing-laid out = go (ltb (length out) 2048) where
+  go : (t : Bool) → written 0 out ≡ cond t (written 0 out) (written 0 out)
+  go true = refl
+  go false = refl
+
+-- ---- the text of an answer, and of a fit
+
+module _ {a : Answer} (ws : List ℕ) where
+  pub pending-text : a ≡ PendingA → [] ≡ answerText (said a) ws
+  pending-text e = rw e
+
+  module _ {b : Float} {w : Way} {c : Counts} (e : a ≡ DoneA b w c) where
+    pub converged-text : w ≡ ConvergedW → endedText Converged b c ws ≡ answerText (said a) ws
+    converged-text f = rw (e, f)
+
+    pub limit-text : w ≡ LimitW → endedText Limit b c ws ≡ answerText (said a) ws
+    limit-text f = rw (e, f)
+
+  pub refused-text : {r : Refusal} → a ≡ RefusedA r → refusalText r ≡ answerText (said a) ws
+  refused-text e = rw e
+
+pub whole-text : (p : ℕ) {o : Outcome} (r : Resumed) {w s : List Float} {ws : List ℕ} → outcome r w s ≡ o → ws ≡ bitsOf p w
+    → answerText (said (r .answer)) ws ≡ wholeText p o
+whole-text p r e f = rw (← e, f)
+
+pub fit-text : (n p : ℕ) (st : Settings) (x y : List Float) {s w : List Float} → s ≡ fillOf plus0 6336 → w ≡ fillOf plus0 p
+    → wholeText p (wholeOf n p x y st s w) ≡ fitText n p st x y
+unfolding fitText
+fit-text n p st x y e f = rw (e, f)
+
+-- ---- of a sheet read
+
+module _ {o : SheetOutcome} {r : Read} {x y : List Float} (e : sheet-outcome r x y ≡ o) where
+  pub read-refused : {q : Refusal} → r ≡ Refused q → refusalText q ≡ readText o
+  read-refused f = rw (← e, f)
+
+  pub read-fitted : {h : Header} → r ≡ Sheet h → fitText (h .n) (h .p) (h .settings) x y ≡ readText o
+  read-fitted f = rw (← e, f)
+
+-- ---- of n rows of p features
+
+module _ (b : List ℕ) (n p : ℕ) where
+  pub many-rows : 256 < n → refusalText TooLarge ≡ sizedText b n p
+  unfolding sizedText
+  many-rows l = rw (lt-leb n 256 l)
+
+  module _ (l : n ≤ 256) where
+    pub many-features : 16 < p → refusalText TooLarge ≡ sizedText b n p
+    unfolding sizedText
+    many-features h = rw (le-leb n 256 l, lt-leb p 16 h)
+
+    pub sized : {x y : List Float} → p ≤ 16 → x ≡ fillOf plus0 (n * p) → y ≡ fillOf plus0 n → readText (sheetOf b 32 8 x y) ≡ sizedText b n p
+    unfolding sizedText
+    sized h e f = rw (le-leb n 256 l, le-leb p 16 h, e, f)
+
+-- ---- of all bytes
+
+module _ (b : List ℕ) where
+  pub many-bytes : 35878 < length b → refusalText TooLarge ≡ sheetText b
+  unfolding sheetText
+  many-bytes l = rw (lt-ltb 35878 (length b) l)
+
+  module _ (l : length b ≤ 35878) {r : Read} (e : r ≡ headerRead b 32 8) where
+    pub header-refused : {q : Refusal} → r ≡ Refused q → refusalText q ≡ sheetText b
+    unfolding sheetText
+    header-refused f = rw (le-ltb 35878 (length b) l, ← e, f)
+
+    pub header-sized : {h : Header} → r ≡ Sheet h → sizedText b (h .n) (h .p) ≡ sheetText b
+    unfolding sheetText
+    header-sized f = rw (le-ltb 35878 (length b) l, ← e, f)
+
+-- ---- p is that of the header
+
+module _ (b : List ℕ) (R C : ℕ) {h : Header} where
+  from-header : h ≡ headerOf b R C → h .p ≡ pOf b
+  unfolding headerOf
+  from-header e = ap (λ (g : Header). g .p) e
+
+  pub header-is : {r : Read} → r ≡ headerRead b R C → r ≡ Sheet h → h .p ≡ pOf b
+  unfolding headerRead
+  header-is {r} e f = go (headerCheck b) (sym f ∙ e) where
+    go : (k : Checked) → Sheet h ≡ headed k (headerOf b R C) → h .p ≡ pOf b
+    go Fine i = from-header (cc)
+    go (Bad q) i =
+        let z : _≡_ {A = ℕ} 0 1 = cc in
+        absurd (omega arith)
+
+  pub sheet-is : (x y : List Float) {r : Read} {x′ y′ : List Float} → sheet-outcome r x′ y′ ≡ sheetOf b R C x y → r ≡ Sheet h → h .p ≡ pOf b
+  unfolding sheetOf
+  sheet-is x y {r} {x′} {y′} e f =
+      go (headerCheck b) (rowsFrom b (pOf b) (nOf b) 0) (roomCheck (nOf b) (pOf b) (length x) (length y)) (rw f at e) where
+        bad : {q : Refusal} → sheet-outcome (Sheet h) x′ y′ ≡ sheet-outcome (Refused q) x y → h .p ≡ pOf b
+        bad i =
+            let z : _≡_ {A = ℕ} 0 1 = cc in
+            absurd (omega arith)
+
+        go : (c₁ c₂ c₃ : Checked)
+            → sheet-outcome (Sheet h) x′ y′
+            ≡ byCheck c₁ x y (byCheck c₂ x y (byCheck c₃ x y (sheet-outcome (Sheet (headerOf b R C)) (matrixOf b (nOf b) (pOf b)) (targetsOf b (nOf b) (pOf b)))))
+            → h .p ≡ pOf b
+        go Fine Fine Fine i = from-header (cc)
+        go (Bad q) c₂ c₃ i = bad i
+        go Fine (Bad q) c₃ i = bad i
+        go Fine Fine (Bad q) i = bad i
+
+-- ---- new arrays: all +0, and the first n of them
+
+pub all-zeros : (m : ℕ) → replicate m plus0 ≡ fillOf plus0 m
+unfolding fillOf
+all-zeros m =
+    ext-getD plus0 (replicate m plus0) (tab (λ i. plus0) m) (length-replicate m plus0 ∙ sym (length-tab (λ i. plus0) m))
+    (λ i h. let l : i < m = omega (arith, length-replicate m plus0) in
+    getD-replicate m i plus0 plus0 l ∙ sym (getD-tab (λ j. plus0) m i plus0 l))
+
+take-zeros : (m n : ℕ) → n ≤ m → take n (replicate m plus0) ≡ replicate n plus0
+take-zeros m zero l = refl
+take-zeros zero (suc n) l = absurd (omega arith)
+take-zeros (suc m) (suc n) l = ap (λ (xs : List Float). plus0 ∷ xs) (take-zeros m n (omega arith))
+
+-- as the range 0..n
+pub zeros : (m n : ℕ) → n ≤ m → take (n - 0) (replicate m plus0) ≡ fillOf plus0 n
+zeros m n l =
+    let e : n - 0 ≡ n = omega arith in
+    rw e (take-zeros m n l ∙ all-zeros n)
+
+pub area : (n p : ℕ) → n ≤ 256 → p ≤ 16 → n * p ≤ 4096
+area n p l h = mul-le-mul l h

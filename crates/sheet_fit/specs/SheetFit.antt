@@ -1,0 +1,63 @@
+-- What the program answers to a sheet: the text of its fit, or of the first refusal in 01's order. Definitions only.
+use mathlib.Core.Bool.{_&&_, cond}
+use mathlib.Core.List.{List, []}
+use Prim.Native.Nat.{ℕ, _*_}
+use lib.Dec.{leb, ltb}
+use lib.ListN.{length}
+use lib.Ieee.{Float, binary64, toBits}
+use Rattle.arrays.specs.Part.{tab}
+use Rattle.arrays.specs.Sums.{_!_, plus0}
+use Rattle.arrays.specs.Vectors.{fillOf}
+use Rattle.refusal.specs.declared.Refusal.{Refusal}
+use Rattle.refusal.specs.declared.Refusal.the-variants.{TooLarge}
+use Rattle.refusal.specs.Refusal.{numberOf, placeOf}
+use Rattle.settings.specs.declared.Settings.{Settings}
+use Rattle.stages.specs.declared.Counts.{Counts}
+use Rattle.elastic_net.specs.ElasticNet.{Said, pending, converged, limit, refused, Outcome}
+use Rattle.whole_fit.specs.Fit.{wholeOf}
+use Rattle.sheet.specs.declared.Read.{Read}
+use Rattle.sheet.specs.declared.Read.the-variants.{Sheet, Refused}
+use Rattle.sheet.specs.Sheet.{outcome, sheetOf, headerRead}
+use Rattle.sheet.specs.Sheet.{Outcome as SheetOutcome}
+use Rattle.answer_text.specs.declared.Ending.{Ending}
+use Rattle.answer_text.specs.declared.Ending.the-variants.{Converged, Limit}
+use Rattle.answer_text.specs.Text.{doneText, refusedText}
+
+abbrev pub refusalText : Refusal → List ℕ
+refusalText r = refusedText (numberOf r) (placeOf r)
+
+unfoldable pub bitsOf : ℕ → List Float → List ℕ
+bitsOf p ws = tab (λ j. toBits binary64 (ws ! j)) p
+
+abbrev pub endedText : Ending → Float → Counts → List ℕ → List ℕ
+endedText e b c ws = doneText e (c .rounds .0) (c .solver .0) (c .trials .0) (toBits binary64 b) ws
+
+-- a fit with a budget of 5,100·M steps is never pending
+abbrev pub answerText : Said → List ℕ → List ℕ
+answerText pending ws = []
+answerText (converged b c) ws = endedText Converged b c ws
+answerText (limit b c) ws = endedText Limit b c ws
+answerText (refused n i) ws = refusedText n i
+
+abbrev pub wholeText : ℕ → Outcome → List ℕ
+wholeText p o = answerText (o .answer) (bitsOf p (o .weights))
+
+-- 6,336 words of scratch are enough for n to 256 and p to 16 with panels of 32 by 8
+unfoldable pub fitText : ℕ → ℕ → Settings → List Float → List Float → List ℕ
+fitText n p st x y = wholeText p (wholeOf n p x y st (fillOf plus0 6336) (fillOf plus0 p))
+
+abbrev pub readText : SheetOutcome → List ℕ
+readText (outcome (Refused r) x y) = refusalText r
+readText (outcome (Sheet h) x y) = fitText (h .n) (h .p) (h .settings) x y
+
+-- n rows of p features: 16 after 13
+unfoldable pub sizedText : List ℕ → ℕ → ℕ → List ℕ
+sizedText b n p = cond (leb n 256 && leb p 16) (readText (sheetOf b 32 8 (fillOf plus0 (n * p)) (fillOf plus0 n))) (refusalText TooLarge)
+
+abbrev pub headedText : List ℕ → Read → List ℕ
+headedText b (Refused r) = refusalText r
+headedText b (Sheet h) = sizedText b (h .n) (h .p)
+
+-- 16 beyond 35,878 bytes, ahead of everything
+unfoldable pub sheetText : List ℕ → List ℕ
+sheetText b = cond (ltb 35878 (length b)) (refusalText TooLarge) (headedText b (headerRead b 32 8))
