@@ -13,6 +13,8 @@
 #include <sys/stat.h>
 #include <unistd.h>
 
+#include "../bits.h"
+
 typedef uint64_t u64;
 
 // Slices pass as pointer and length.
@@ -102,18 +104,6 @@ static void seeded(u64 seed, u64 stream) {
 
 static u64 below(u64 n) { return word() % n; }
 static u64 between(u64 low, u64 high) { return low + below(high - low + 1); }
-
-static u64 bits_of(double x) {
-    u64 bits;
-    memcpy(&bits, &x, sizeof bits);
-    return bits;
-}
-
-static double number(u64 bits) {
-    double x;
-    memcpy(&x, &bits, sizeof x);
-    return x;
-}
 
 static double unit(void) { return (double)(word() >> 11) * 0x1p-53; }
 
@@ -375,10 +365,10 @@ static void solver(const u64 *words, size_t count, u64 seed) {
     mark(c.s, c.s_len), mark(c.answer, ANSWER);
     take(&first, &c);
     alarm(LASTING);
-    u64 number_ = xangoravit_solve(n, c.x, n * n, c.y, n, c.w, n, number(words[3]), words[2], c.s, c.s_len, c.answer, ANSWER);
+    u64 number = xangoravit_solve(n, c.x, n * n, c.y, n, c.w, n, of_bits(words[3]), words[2], c.s, c.s_len, c.answer, ANSWER);
     u64 due[ANSWER] = {told[0] ? 3 : 1, told[0], 0, 0, 0, 0, told[1]};
     same("answer", c.answer, due, ANSWER);
-    same("number", &number_, told, 1);
+    same("number", &number, told, 1);
     same("solution", c.w, told + 2, n);
     same("scratch behind the need", c.s + 8 * n, first.s + 8 * n, c.s_len - 8 * n);
     if (told[0]) unwritten(&first, &c);
@@ -398,16 +388,16 @@ static void predict(const u64 *words, size_t count, u64 seed) {
     seal();
     mark(c.w, n), mark(c.answer, ANSWER);
     alarm(LASTING);
-    u64 number_ = xangoravit_predict(n, p, c.x, n * p, c.y, p, number(w[p]), c.w, n, c.answer, ANSWER), due[ANSWER] = {1};
+    u64 number = xangoravit_predict(n, p, c.x, n * p, c.y, p, of_bits(w[p]), c.w, n, c.answer, ANSWER), due[ANSWER] = {1};
     same("answer", c.answer, due, ANSWER);
-    same("number", &number_, due + 1, 1);
+    same("number", &number, due + 1, 1);
     same("predictions", c.w, told, n);
     predictions++;
 }
 
 // ---- tampered resumes: 01's refusals 1 to 4 and 9 a second time
 
-static int in_range(u64 bits, double most) { return number(bits) >= 0.0 && number(bits) <= most; }
+static int in_range(u64 bits, double most) { return of_bits(bits) >= 0.0 && of_bits(bits) <= most; }
 
 static int misplaced(u64 limit, const u64 *rec) {
     u64 stage = rec[0], index = rec[1], round = rec[2];

@@ -4,24 +4,13 @@
 #include <stdint.h>
 #include <stdio.h>
 #include <stdlib.h>
-#include <string.h>
+
+#include "../bits.h"
 
 extern double root(double);
 extern double ln(double);
 
 static long nans, other;
-
-static uint64_t bits_of(double x) {
-    uint64_t bits;
-    memcpy(&bits, &x, sizeof bits);
-    return bits;
-}
-
-static double of_bits(uint64_t bits) {
-    double x;
-    memcpy(&x, &bits, sizeof x);
-    return x;
-}
 
 static uint64_t *words(long count) {
     uint64_t *all = malloc(count * sizeof *all);

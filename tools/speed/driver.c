@@ -8,6 +8,8 @@
 #include <string.h>
 #include <time.h>
 
+#include "../bits.h"
+
 // Slices pass as pointer and length. An answer is the result's place in the scratch; 0 says that a size was wrong.
 extern size_t measure_round(const double *gram, size_t gram_len, const double *given, size_t given_len, size_t p, double tol, size_t count, double *s, size_t s_len);
 extern size_t measure_lazy(size_t what, const double *m, size_t m_len, const double *given, size_t given_len, size_t n, size_t p, double alpha, double l1_ratio,
@@ -110,12 +112,6 @@ static const struct piece {
     {"scale", EAGER, 2}, {"ab", EAGER, 3}, {"eager-rows", EAGER, 4}, {"eager-columns", EAGER, 5},
     {"fit-eager", FIT, 0}, {"fit-lazy", FIT, 1},
 };
-
-static uint64_t bits_of(double x) {
-    uint64_t bits;
-    memcpy(&bits, &x, sizeof bits);
-    return bits;
-}
 
 // Whole fits that normalise, each started anew and resumed once. Weights and intercept go behind the scratch that a fit may need.
 static size_t fit(int lazy, const struct problem *q, size_t count, double *s, size_t words) {

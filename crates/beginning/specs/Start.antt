@@ -10,7 +10,7 @@ use Rattle.arrays.specs.Vectors.{fillOf}
 use Rattle.settings.specs.declared.Terms.{Terms}
 use Rattle.layout.specs.declared.Sizes.{Sizes}
 use Rattle.layout.specs.declared.Places.{Places}
-use Rattle.layout.specs.Slots.{Slot, Store, Room, all-of, _⟨_≔_⟩}
+use Rattle.layout.specs.Slots.{Store, Room, all-of, _⟨_≔_⟩}
 use Rattle.layout.specs.Slots.{Slot.U, Slot.F}
 use Rattle.lazy_normalization.specs.Lazy.{recipStore}
 use Rattle.lazy_gram.specs.Gram.{lazyGramStore}

@@ -4,7 +4,7 @@ use mathlib.Core.List.{List}
 use lib.Ieee.{Float}
 use Rattle.settings.specs.declared.Terms.{Terms}
 use Rattle.layout.specs.declared.Sizes.{Sizes}
-use Rattle.layout.specs.Slots.{Slot, Store, Has}
+use Rattle.layout.specs.Slots.{Store, Has}
 use Rattle.lasso_optimizer.specs.Opening.{gapStore, gapOf, dualOf}
 use Rattle.duality.specs.declared.Values.{Values}
 

@@ -10,7 +10,7 @@ use Rattle.arrays.specs.Sums.{plus0, meanOf, productOf}
 use Rattle.arrays.specs.Vectors.{mapOf, zipOf, fillOf}
 use Rattle.layout.specs.declared.Sizes.{Sizes}
 use Rattle.layout.specs.declared.Places.{Places}
-use Rattle.layout.specs.Slots.{Slot, Store, Room, words}
+use Rattle.layout.specs.Slots.{Store, Room, words}
 use Rattle.layout.specs.Slots.{Slot.W, Slot.CENTRE, Slot.SCALE}
 
 -- gamma * w / deviation; unnormalised gamma * w, in a branch of its own

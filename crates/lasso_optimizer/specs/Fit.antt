@@ -1,13 +1,13 @@
 -- The parts of a fit, the fit as nested loops, and how the parts' answers are told by the code. Definitions only.
 use mathlib.Core.Path.{_≡_}
-use mathlib.Core.Bool.{true, false}
+use mathlib.Core.Bool.{false}
 use mathlib.Core.List.{List}
 use Prim.Native.Nat.{ℕ}
 use lib.Ieee.{Float, inf}
 use Rattle.arrays.specs.Sums.{plus0}
 use Rattle.settings.specs.declared.Terms.{Terms}
 use Rattle.layout.specs.declared.Sizes.{Sizes}
-use Rattle.layout.specs.Slots.{Slot, Store, Has}
+use Rattle.layout.specs.Slots.{Store, Has}
 use Rattle.newton.specs.Newton.{startT}
 use Rattle.pause.specs.Parts.{Opened, ready, done, tiny, Turned, more, stop, Tried, accept, halve, Parts, End}
 use Rattle.pause.specs.Unbroken.{unbroken}

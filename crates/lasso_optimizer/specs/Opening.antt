@@ -1,5 +1,5 @@
 -- A round's opening, in lasso_optimizer.rs's order: the gap part, the Newton part, the solver's tolerance and its first lines. Definitions only.
-use mathlib.Core.Bool.{Bool, not, _&&_, cond}
+use mathlib.Core.Bool.{not, _&&_, cond}
 use mathlib.Core.List.{List}
 use Prim.Native.Nat.{ℕ, _*_}
 use lib.Dec.{eqb}
@@ -10,7 +10,7 @@ use Rattle.arrays.specs.Sums.{dotOf, norm1Of, norm2Of, normInfOf, plus0}
 use Rattle.arrays.specs.Vectors.{mapOf, zipOf}
 use Rattle.settings.specs.declared.Terms.{Terms}
 use Rattle.layout.specs.declared.Sizes.{Sizes}
-use Rattle.layout.specs.Slots.{Slot, Store, _⟨_≔_⟩}
+use Rattle.layout.specs.Slots.{Store, _⟨_≔_⟩}
 use Rattle.layout.specs.Slots.{Slot.W, Slot.U, Slot.Q1, Slot.Q2, Slot.D1, Slot.D2, Slot.PRB, Slot.PRS, Slot.GRAD, Slot.XNU, Slot.Y, Slot.Z, Slot.NU}
 use Rattle.inner_solver.specs.Inner.{beginStore, bnrmOf}
 use Rattle.design.specs.Mode.{matvecOf, transposedOf}

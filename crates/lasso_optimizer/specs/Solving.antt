@@ -6,9 +6,8 @@ use lib.Ieee.{Float, lt, le}
 use Rattle.arrays.specs.Sums.{dotOf, sumOf}
 use Rattle.settings.specs.declared.Terms.{Terms}
 use Rattle.layout.specs.declared.Sizes.{Sizes}
-use Rattle.layout.specs.Slots.{Slot, Store}
+use Rattle.layout.specs.Slots.{Store}
 use Rattle.layout.specs.Slots.{Slot.U, Slot.F, Slot.DXU, Slot.GRAD, Slot.Z}
-use Rattle.bg_solver.specs.Solver.{Round}
 use Rattle.inner_solver.specs.Inner.{roundOf, turnStore, turnError}
 use Rattle.newton.specs.Newton.{one}
 use Rattle.line_search.specs.Search.{sumlognegOf, phiOf}

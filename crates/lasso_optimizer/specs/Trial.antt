@@ -1,7 +1,7 @@
 -- A trial of the line search. Definitions only.
-use mathlib.Core.Bool.{Bool, cond}
+use mathlib.Core.Bool.{cond}
 use mathlib.Core.List.{List}
-use Prim.Native.Nat.{ℕ, _*_}
+use Prim.Native.Nat.{_*_}
 use lib.Ieee.{Float, lt}
 use Rattle.numbers.specs.Ops.{_⊕_, _⊖_, _⊗_}
 use Rattle.arrays.specs.Part.{part}
@@ -9,7 +9,7 @@ use Rattle.arrays.specs.Sums.{dotOf, sumOf, plus0}
 use Rattle.arrays.specs.Vectors.{zipOf}
 use Rattle.settings.specs.declared.Terms.{Terms}
 use Rattle.layout.specs.declared.Sizes.{Sizes}
-use Rattle.layout.specs.Slots.{Slot, Store, _⟨_≔_⟩}
+use Rattle.layout.specs.Slots.{Store, _⟨_≔_⟩}
 use Rattle.layout.specs.Slots.{Slot.W, Slot.U, Slot.NEWW, Slot.NEWU, Slot.F, Slot.NEWF, Slot.DXU, Slot.Y, Slot.NEWZ}
 use Rattle.design.specs.Mode.{matvecOf}
 use Rattle.newton.specs.Newton.{half}

@@ -12,6 +12,7 @@ use Rattle.layout.specs.Slots.{Room}
 use Rattle.lazy_gram.specs.Gram.{Lent as Grams}
 use Rattle.design.specs.Mode.{Held}
 use Rattle.design.specs.Statistics.{Given}
+use Rattle.design.proofs.Lengths.{held-on}
 use Rattle.measure.specs.Measure.{Lent}
 
 pub as-long : {sh : Sizes} {l : Places} {s t : List Float} → Room sh l s → length t ≡ length s → Room sh l t
@@ -19,20 +20,7 @@ as-long h e = record { room = omega (arith, h .room); laid = h .laid }
 
 module _ {sh : Sizes} {l : Places} {m given s : List Float} (h : Lent sh l m given s) where
   pub still : {t : List Float} → length t ≡ length s → Lent sh l m given t
-  still e =
-      let k = h .held in
-      record {
-        held = record {
-          room = as-long (k .room) e;
-          matrix = k .matrix;
-          rows = k .rows;
-          columns = k .columns;
-          all = k .all;
-          stored = k .stored;
-        };
-        fits = h .fits;
-        panels = h .panels;
-      }
+  still e = record { held = held-on (h .held) e; fits = h .fits; panels = h .panels }
 
   pub lazy-gram : sh .rows ≡ 0 → Grams sh l m s
   lazy-gram e =

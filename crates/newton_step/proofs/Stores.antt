@@ -1,7 +1,7 @@
 -- What the calls of each function leave together, over the store. Assumes nothing.
 use mathlib.Core.Path.{_≡_}
 use mathlib.Core.List.{List}
-use Prim.Native.Nat.{ℕ, _+_, _*_, _≤_}
+use Prim.Native.Nat.{ℕ, _+_, _≤_}
 use native.Mathlib.Omega.{arith}
 use lib.Ieee.{Float, neg}
 use Rattle.arrays.specs.Part.{part, put, put-append, part-put-above}

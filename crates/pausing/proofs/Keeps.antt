@@ -1,5 +1,5 @@
 -- The parts keep the weights within their bounds. Assumes nothing.
-use mathlib.Core.Path.{_≡_, refl, sym, _∙_, subst}
+use mathlib.Core.Path.{_≡_, refl, sym, subst}
 use mathlib.Core.Bool.{Bool, true, false, cond}
 use mathlib.Core.List.{List}
 use Prim.Native.Nat.{ℕ, _+_, _*_, _<_, _≤_}
@@ -8,21 +8,19 @@ use lib.Dec.{T, eqb}
 use lib.ListN.{length}
 use lib.Ieee.{Float, lt, le}
 use Rattle.numbers.specs.Kinds.{unsigned}
-use Rattle.numbers.specs.Ops.{_⊕_, _⊗_, _⊘_}
-use Rattle.arrays.specs.Part.{part}
-use Rattle.arrays.specs.Sums.{plus0, dotOf, sumOf}
+use Rattle.numbers.specs.Ops.{_⊘_}
+use Rattle.arrays.specs.Sums.{plus0, dotOf}
 use Rattle.arrays.specs.Vectors.{length-zip}
 use Rattle.settings.specs.declared.Terms.{Terms}
 use Rattle.layout.specs.declared.Sizes.{Sizes}
 use Rattle.layout.specs.Store.{upd}
-use Rattle.layout.specs.Slots.{Slot, Store, _⟨_≔_⟩}
-use Rattle.layout.specs.Slots.{Slot.W, Slot.U, Slot.NEWW, Slot.NEWU, Slot.NEWF, Slot.NEWZ, Slot.DXU}
+use Rattle.layout.specs.Slots.{Store, _⟨_≔_⟩}
+use Rattle.layout.specs.Slots.{Slot.W, Slot.U, Slot.NEWW, Slot.NEWU, Slot.NEWF, Slot.NEWZ}
 use Rattle.newton.specs.Newton.{nextT}
-use Rattle.line_search.specs.Search.{facesOf, largestOf, sumlognegOf, phiOf, decreases}
+use Rattle.line_search.specs.Search.{facesOf, largestOf, decreases}
 use Rattle.bound.specs.Kept.{Kept}
 use Rattle.bound.proofs.Kept.{kept-round, kept-later, kept-accept}
-use Rattle.inner_solver.specs.Inner.{bnrmOf, beginStore, roundOf, turnStore, turnError}
-use Rattle.pause.specs.Parts.{Opened, Turned, Tried}
+use Rattle.inner_solver.specs.Inner.{turnStore}
 use Rattle.pause.specs.Invariant.{OfOpened, OfTurned, OfTried, Keeps}
 use Rattle.lasso_optimizer.specs.declared.Scalars.{Scalars}
 use Rattle.lasso_optimizer.specs.Data.{Data, held}
@@ -31,7 +29,7 @@ use Rattle.lasso_optimizer.specs.Solving.{turnTo, turns, aimBy, aim}
 use Rattle.lasso_optimizer.specs.Trial.{movedStore, newzStore, newphiOf, takenStore, decideBy, tryBy, tries}
 use Rattle.lasso_optimizer.specs.Fit.{parts}
 use Rattle.pausing.specs.Kept.{KeptData}
-use Rattle.pausing.proofs.Untouched.{Untouched, both, kept-by, begin-keeps, turn-keeps, moved-keeps, gap-keeps, newton-keeps, newz-keeps}
+use Rattle.pausing.proofs.Untouched.{kept-by, begin-keeps, turn-keeps, moved-keeps, gap-keeps, newton-keeps, newz-keeps}
 
 -- a choice keeps what both ways keep
 pub chosen : {A : Type 0} (P : A → Type 0) (b : Bool) {x y : A} → P x → P y → P (cond b x y)

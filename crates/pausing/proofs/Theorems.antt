@@ -1,8 +1,7 @@
 -- Condition 3 over the optimiser's own parts: pausing changes nothing, and at each pause and end the weights are within their bounds. Assumes nothing.
-use mathlib.Core.Path.{_≡_, refl, sym, subst}
+use mathlib.Core.Path.{_≡_, sym, subst}
 use mathlib.Core.List.{List, _∷_}
 use Prim.Native.Nat.{ℕ, _*_, _<_, _≤_}
-use native.Mathlib.Omega.{arith}
 use lib.Dec.{T, lit≤}
 use lib.Ieee.{Float}
 use Rattle.numbers.specs.Kinds.{unsigned}
@@ -10,13 +9,12 @@ use Rattle.arrays.specs.Sums.{plus0}
 use Rattle.arrays.specs.Vectors.{fillOf}
 use Rattle.settings.specs.declared.Terms.{Terms}
 use Rattle.layout.specs.declared.Sizes.{Sizes}
-use Rattle.layout.specs.Slots.{Slot, Store}
+use Rattle.layout.specs.Slots.{Store}
 use Rattle.layout.specs.Slots.{Slot.W, Slot.U}
 use Rattle.newton.specs.Newton.{one, startT}
 use Rattle.bound.specs.Kept.{Kept as KeptAt}
 use Rattle.bound.proofs.Kept.{kept-start}
 use Rattle.pause.specs.Progress.{over, Always, calls, total}
-use Rattle.pause.specs.Parts.{Parts}
 use Rattle.pause.specs.Paused.{call, start}
 use Rattle.pause.specs.Bounds.{Counted, EndWithin}
 use Rattle.pause.specs.Invariant.{Kept, EndKept}

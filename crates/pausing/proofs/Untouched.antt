@@ -7,7 +7,7 @@ use lib.Ieee.{Float, lt}
 use Rattle.settings.specs.declared.Terms.{Terms}
 use Rattle.layout.specs.declared.Sizes.{Sizes}
 use Rattle.layout.specs.Store.{upd}
-use Rattle.layout.specs.Slots.{Slot, Store, _⟨_≔_⟩}
+use Rattle.layout.specs.Slots.{Store, _⟨_≔_⟩}
 use Rattle.layout.specs.Slots.{Slot.W, Slot.U, Slot.NU, Slot.XNU}
 use Rattle.arrays.specs.Sums.{normInfOf}
 use Rattle.inner_solver.specs.Inner.{withWork, beginStore, turnStore}

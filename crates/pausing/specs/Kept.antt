@@ -3,7 +3,7 @@ use mathlib.Core.Path.{_≡_}
 use Prim.Native.Nat.{ℕ, _+_}
 use lib.ListN.{length}
 use Rattle.layout.specs.declared.Sizes.{Sizes}
-use Rattle.layout.specs.Slots.{Slot, Store, size}
+use Rattle.layout.specs.Slots.{Slot, size}
 use Rattle.layout.specs.Slots.{Slot.W, Slot.U}
 use Rattle.bound.specs.Kept.{Kept}
 use Rattle.lasso_optimizer.specs.Data.{Data, held}

@@ -13,7 +13,6 @@ use Rattle.layout.specs.Slots.{vars, rest, flatly, flat-of, start as first-has}
 use Rattle.layout.specs.Need.{sizesOf}
 use Rattle.pause.specs.Progress.{run, total}
 use Rattle.pause.specs.Parts.{none, limit, end}
-use Rattle.pause.specs.Paused.{call}
 use Rattle.pause.specs.Unbroken.{unbroken, close, manyRounds}
 use Rattle.lasso_optimizer.specs.Fit.{optimized}
 use Rattle.stages.specs.declared.Paused.{Paused}

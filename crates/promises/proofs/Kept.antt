@@ -11,7 +11,7 @@ use Rattle.arrays.specs.Part.{part}
 use Rattle.arrays.specs.Sums.{_!_}
 use Rattle.settings.specs.declared.Settings.{Settings}
 use Rattle.layout.specs.declared.Sizes.{Sizes}
-use Rattle.layout.specs.Slots.{Slot, Store, off, vars-of}
+use Rattle.layout.specs.Slots.{Store, off, vars-of}
 use Rattle.layout.specs.Slots.{Slot.W, Slot.U}
 use Rattle.layout.specs.Need.{sizesOf}
 use Rattle.bound.specs.Kept.{Inside, Kept as KeptAt}

@@ -1,9 +1,8 @@
 -- Which records a call may go on with: 01's refusal 9. Definitions only.
-use mathlib.Core.Bool.{Bool, true, false, _&&_, _||_}
+use mathlib.Core.Bool.{Bool, false, _&&_, _||_}
 use Prim.Native.Nat.{ℕ, _+_, _*_}
 use lib.Dec.{ltb, leb, eqb}
 use Rattle.arrays.specs.Sums.{plus0}
-use Rattle.lasso_optimizer.specs.declared.Scalars.{Scalars}
 use Rattle.stages.specs.declared.Counts.{Counts}
 use Rattle.stages.specs.declared.Paused.{Paused}
 use Rattle.stages.specs.declared.Stage.{Stage}

@@ -1,5 +1,5 @@
 -- The training sheet: its format, its refusals in 01's order, and what it decodes to. Definitions only.
-use mathlib.Core.Bool.{Bool, true, false, _&&_, _||_, cond}
+use mathlib.Core.Bool.{Bool, true, _&&_, _||_}
 use mathlib.Core.List.{List}
 use Prim.Native.Nat.{ℕ, zero, suc, _+_, _*_, _%_}
 use lib.Dec.{leb, ltb, eqb}
@@ -7,13 +7,11 @@ use lib.ListN.{length, getD}
 use lib.Ieee.{Float}
 use Rattle.arrays.specs.Part.{tab}
 use Rattle.matrices.specs.Grid.{grid}
-use Rattle.refusal.specs.declared.Refusal.{Refusal}
 use Rattle.refusal.specs.declared.Refusal.the-variants.{Size, Length, Version, SheetLength, Flags, Claim, Pair}
 use Rattle.refusal.specs.declared.Checked.{Checked}
 use Rattle.refusal.specs.declared.Checked.the-variants.{Fine, Bad}
 use Rattle.refusal.specs.Refusal.{numberOf, placeOf}
 use Rattle.refusal.specs.Checks.{ask}
-use Rattle.settings.specs.declared.Settings.{Settings}
 use Rattle.sheet.specs.declared.Header.{Header}
 use Rattle.sheet.specs.declared.Read.{Read}
 use Rattle.sheet.specs.declared.Read.the-variants.{Sheet, Refused}

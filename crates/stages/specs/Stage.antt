@@ -7,16 +7,13 @@ use Rattle.pause.specs.Progress.{Progress, over, going}
 use Rattle.pause.specs.Parts.{Counts, How, converged, limit, refused, End, end}
 use Rattle.pause.specs.Paused.{State, opening, solving, searching, dataOf}
 use Rattle.layout.specs.declared.Sizes.{Sizes}
-use Rattle.layout.specs.Slots.{Slot, Store, Has}
+use Rattle.layout.specs.Slots.{Store, Has}
 use Rattle.lasso_optimizer.specs.declared.Scalars.{Scalars}
 use Rattle.lasso_optimizer.specs.declared.Turned.{Turned}
 use Rattle.lasso_optimizer.specs.declared.Turned.the-variants.{More, Stop}
 use Rattle.lasso_optimizer.specs.declared.Tried.{Tried}
 use Rattle.lasso_optimizer.specs.declared.Tried.the-variants.{Accept, Halve}
 use Rattle.lasso_optimizer.specs.Data.{Data, held, scalarsOf, storeOf}
-use Rattle.stages.specs.declared.Rounds.{Rounds}
-use Rattle.stages.specs.declared.SolverRounds.{SolverRounds}
-use Rattle.stages.specs.declared.Trials.{Trials}
 use Rattle.stages.specs.declared.Counts.{Counts as CountsE}
 use Rattle.stages.specs.declared.Paused.{Paused}
 use Rattle.stages.specs.declared.Stage.{Stage}

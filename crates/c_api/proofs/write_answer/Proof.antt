@@ -1,9 +1,10 @@
 -- `c_api::write_answer` meets its contract. Assumes nothing.
 use borrow.Author.Needs.{needs}
 use native.Mathlib.Omega.{arith}
+use mathlib.Core.Path.{sym}
 use lib.ListN.{length-set}
+use Rattle.arrays.specs.Part.{put, put-all}
 use Rattle.c_api.specs.Calls.{toldWords}
-use Rattle.c_api.proofs.Writing.{written}
 use Rattle.c_api.proofs.write_answer.Statement.{statement}
 use Rattle.c_api.proofs.write_answer.Tie as tie
 
@@ -32,9 +33,10 @@ same-length : tie.Need-same-length
 same-length c = search needs
 
 returns : tie.Need-returns
+unfolding put
 returns c =
     let a = c .before .before .before in
-    written (toldWords (a .args .t) (a .args .c)) (a .args .out .now) (a .pre)
+    put-all (a .args .out .now) (toldWords (a .args .t) (a .args .c)) (sym (a .pre))
 
 pub write-answer-spec : {M : Type 1} → statement M
 write-answer-spec =
