@@ -83,8 +83,8 @@ pub fn scaled(x: &Matrix, y: &Vec<f64>, means: &[f64], deviations: &[f64], l2: f
 }
 
 /// Weights, then the intercept, of a whole fit that normalises.
-pub fn whole(x: &Matrix, y: &Vec<f64>, alpha: f64, l1_ratio: f64, lazy_normalization: bool) -> Vec<f64> {
-    let parameters = ElasticNetParameters { alpha, l1_ratio, normalize: true, tol: 1e-4, max_iter: 1000, lazy_normalization };
+pub fn whole(x: &Matrix, y: &Vec<f64>, alpha: f64, l1_ratio: f64, tol: f64, max_iter: usize, lazy_normalization: bool) -> Vec<f64> {
+    let parameters = ElasticNetParameters { alpha, l1_ratio, normalize: true, tol, max_iter, lazy_normalization };
     let net = Net::fit(x, y, parameters).unwrap();
     net.coefficients().iterator(0).chain([net.intercept()]).copied().collect()
 }

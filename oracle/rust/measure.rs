@@ -2,7 +2,7 @@
 use std::hint::black_box;
 use std::time::Instant;
 
-use crate::linalg::basic::arrays::{Array, Array1, Array2};
+use crate::linalg::basic::arrays::{Array, Array1, Array2, ArrayView1};
 use crate::linalg::basic::matrix::DenseMatrix;
 use crate::linear::elastic_net::inside;
 use crate::linear::lasso_optimizer::inside as optimizer;
@@ -124,15 +124,50 @@ fn rounds(q: &Problem, plan: &mut Plan) -> Vec<f64> {
     dxu
 }
 
-fn piece(what: &str, q: &Problem, plan: &mut Plan) -> Result<Vec<f64>, String> {
+/// Trials of which none is accepted: bounds of 1, half of w, a tenth of the right side as the direction, phi and gdx of 0. What they leave, and the halved s.
+fn trials(q: &Problem, plan: &mut Plan, matvec: impl Fn(&Vec<f64>) -> Vec<f64>) -> Vec<f64> {
+    let (n, p) = (q.y.len(), q.w.len());
+    let mut y = targets(q);
+    y.resize(n + p, 0.0);
+    let y = y.sub_scalar(y.mean_by());
+    let w: Vec<f64> = q.w.iter().map(|w| 0.5 * w).collect();
+    let dxu: Vec<f64> = q.grad.iter().map(|g| 0.1 * g).collect();
+    let (u, dx, du) = (vec![1.0; p], dxu[..p].to_vec(), dxu[p..].to_vec());
+    let lambda = ALPHA * L1_RATIO * n as f64 * (1.0 / (1.0 + q.l2).sqrt());
+    let mut left = vec![];
+    for _ in 0..plan.calls {
+        let (given, scalars, count) = black_box(([&w, &u, &dx, &du], [lambda, 1.0, 0.0, 0.0], plan.count));
+        let (neww, newu, newf, newz, s, made): (_, _, Matrix, _, _, _) = plan.timed(|| optimizer::search((n + p, p), given, &y, scalars, count, &matvec));
+        assert_eq!(made, count);
+        left = [neww, newu, by_rows(newf), newz, vec![s]].concat();
+    }
+    left
+}
+
+/// A whole fit: M rounds with a tolerance that none reaches, or so many as 1e-4 takes.
+fn fits(q: &Problem, plan: &mut Plan, lazy: bool, limit: Option<usize>) -> Vec<f64> {
+    let (y, tol) = (targets(q), if limit.is_some() { 0.0 } else { 1e-4 });
+    plan.repeat(|| inside::whole(black_box(&q.x), black_box(&y), ALPHA, L1_RATIO, black_box(tol), black_box(limit.unwrap_or(1000)), lazy))
+}
+
+fn piece(what: &str, limit: Option<usize>, q: &Problem, plan: &mut Plan) -> Result<Vec<f64>, String> {
     let (means, deviations) = inside::statistics(&q.x);
     let stored = || inside::scaled(&q.x, &q.y, &means, &deviations, q.l2);
     let lazy = || inside::Lazy::new(&q.x, means.clone(), deviations.clone(), q.l2);
     Ok(match what {
         "round" => rounds(q, plan),
-        "fit-eager" | "fit-lazy" => {
-            let y = targets(q);
-            plan.repeat(|| inside::whole(black_box(&q.x), black_box(&y), ALPHA, L1_RATIO, what == "fit-lazy"))
+        "fit-eager" | "fit-lazy" => fits(q, plan, what == "fit-lazy", limit),
+        "trial-eager" | "step-eager" => {
+            let design = stored();
+            trials(q, plan, |v| v.xa(true, &design))
+        }
+        "trial-lazy" | "step-lazy" => {
+            let design = lazy();
+            trials(q, plan, |v| design.matvec(v))
+        }
+        "predict" => {
+            let net = inside::model(&q.w, q.v[0]);
+            plan.repeat(|| black_box(&net).predict(black_box(&q.x)).unwrap())
         }
         "statistics" => {
             let (a, b) = plan.repeat(|| inside::statistics(black_box(&q.x)));
@@ -170,13 +205,17 @@ fn piece(what: &str, q: &Problem, plan: &mut Plan) -> Result<Vec<f64>, String> {
     })
 }
 
-/// Piece, sizes, repetitions, the sum of the last answer's bits, nanoseconds of the best call.
+/// Piece (of a fit also `piece:M`), sizes, repetitions, the sum of the last answer's bits, nanoseconds of the best call.
 pub fn run(what: &str, sizes: [&str; 4]) -> Result<String, String> {
     let [n, p, count, calls] = sizes.map(|word| word.parse::<usize>().unwrap_or(0));
     if n < 2 || p < 1 || count < 1 || calls < 1 {
         return Err("measure: two rows, a column, a repetition and a call at least".to_string());
     }
     let mut plan = Plan { count, calls, best: u128::MAX };
-    let answer = piece(what, &problem(n, p), &mut plan)?;
+    let (name, limit) = match what.split_once(':') {
+        Some((name, limit)) => (name, Some(limit.parse().map_err(|_| format!("measure: {limit} is no limit"))?)),
+        None => (what, None),
+    };
+    let answer = piece(name, limit, &problem(n, p), &mut plan)?;
     Ok(format!("{what} {n} {p} {count} {:016x} {}\n", sum_of(answer), plan.best))
 }

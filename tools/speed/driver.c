@@ -1,5 +1,6 @@
 // driver PIECE N P COUNT CALLS: our side of a comparison. The numbers, the sum and the line that it prints are those of the oracle's `measure` (oracle/rust/measure.rs).
-// It makes CALLS calls of COUNT repetitions each, clears the scratch before each call, and prints a sum over the last result's bits and the nanoseconds of the best call.
+// It makes CALLS calls of COUNT repetitions each, clears the scratch before each call, and prints a sum over the last result's bits and the nanoseconds of the best call;
+// of a fit also rounds, solver rounds and trials. fit-eager:M and fit-lazy:M are fits of M rounds.
 #include <float.h>
 #include <inttypes.h>
 #include <stdint.h>
@@ -8,6 +9,7 @@
 #include <string.h>
 #include <time.h>
 
+#include "../../examples/c/xangoravit.h"
 #include "../bits.h"
 
 // Slices pass as pointer and length. An answer is the result's place in the scratch; 0 says that a size was wrong.
@@ -17,13 +19,9 @@ extern size_t measure_lazy(size_t what, const double *m, size_t m_len, const dou
 extern size_t measure_eager(size_t what, const double *m, size_t m_len, const double *given, size_t given_len, size_t n, size_t p, double alpha, double l1_ratio,
                             size_t count, double *s, size_t s_len);
 
-extern uint64_t xangoravit_start(size_t n, size_t p, const double *x, size_t x_len, const double *y, size_t y_len, const uint64_t *settings, size_t settings_len, double *s,
-                                 size_t s_len, uint64_t *rec, size_t rec_len, uint64_t *answer, size_t answer_len);
-extern uint64_t xangoravit_resume(size_t n, size_t p, const double *x, size_t x_len, const double *y, size_t y_len, const uint64_t *settings, size_t settings_len, uint64_t *rec,
-                                  size_t rec_len, double *s, size_t s_len, double *w, size_t w_len, uint64_t budget, uint64_t *answer, size_t answer_len);
-
 static const double ALPHA = 0.1, L1_RATIO = 0.5, TOL = DBL_MIN;
-static const size_t PANEL_ROWS = 256, PANEL_COLS = 32, WORDS = 289536 + 65; // the Rust's panels; the most that a fit needs, and its result
+static const size_t PANEL_ROWS = 256, PANEL_COLS = 32; // the Rust's panels
+static const size_t LENT = 289536, WORDS = 289536 + 4417;                  // the most that a fit needs; with the longest result, a trial's, behind it
 
 static void fail(const char *why) {
     fprintf(stderr, "driver: %s\n", why);
@@ -101,7 +99,7 @@ static struct problem problem(size_t n, size_t p) {
     return q;
 }
 
-enum side { ROUND, LAZY, EAGER, FIT };
+enum side { ROUND, LAZY, EAGER, FIT, TRIAL, STEP, PREDICT };
 
 static const struct piece {
     const char *name;
@@ -110,42 +108,104 @@ static const struct piece {
 } pieces[] = {
     {"round", ROUND, 1}, {"lazy-gram", LAZY, 3}, {"lazy-rows", LAZY, 4}, {"lazy-columns", LAZY, 5}, {"statistics", EAGER, 1},
     {"scale", EAGER, 2}, {"ab", EAGER, 3}, {"eager-rows", EAGER, 4}, {"eager-columns", EAGER, 5},
-    {"fit-eager", FIT, 0}, {"fit-lazy", FIT, 1},
+    {"fit-eager", FIT, 0}, {"fit-lazy", FIT, 1}, {"trial-eager", TRIAL, 0}, {"trial-lazy", TRIAL, 1}, {"step-eager", STEP, 0}, {"step-lazy", STEP, 1},
+    {"predict", PREDICT, 0},
 };
 
-// Whole fits that normalise, each started anew and resumed once. Weights and intercept go behind the scratch that a fit may need.
-static size_t fit(int lazy, const struct problem *q, size_t count, double *s, size_t words) {
-    size_t n = q->n, p = q->p, lent = words - p - 1;
-    uint64_t settings[8] = {bits_of(ALPHA), bits_of(L1_RATIO), bits_of(1e-4), 1000, PANEL_ROWS, PANEL_COLS, 1, lazy}, rec[16], answer[7];
-    double *w = s + lent;
-    for (size_t i = 0; i < count; i++) {
-        if (xangoravit_start(n, p, q->x, n * p, q->y, n, settings, 8, s, lent, rec, 16, answer, 7)) return 0;
-        if (xangoravit_resume(n, p, q->x, n * p, q->y, n, settings, 8, rec, 16, s, lent, w, p, UINT64_MAX, answer, 7)) return 0;
-    }
-    memcpy(w + p, answer + 6, sizeof *w);
-    return lent;
+static uint64_t settings[XANGORAVIT_SETTINGS], record[XANGORAVIT_RECORD], answer[XANGORAVIT_ANSWER];
+
+// Of a fit that normalises, of `limit` rounds with a tolerance that none reaches; without a limit, of as many as 1e-4 takes.
+static void set(int lazy, const char *limit) {
+    const uint64_t all[] = {bits_of(ALPHA), bits_of(L1_RATIO), bits_of(limit ? 0.0 : 1e-4), limit ? strtoul(limit, NULL, 10) : 1000, PANEL_ROWS, PANEL_COLS, 1, lazy};
+    memcpy(settings, all, sizeof all);
+}
+
+static int start(const struct problem *q, double *s) {
+    size_t n = q->n, p = q->p;
+    return !xangoravit_start(n, p, q->x, n * p, q->y, n, settings, XANGORAVIT_SETTINGS, s, LENT, record, XANGORAVIT_RECORD, answer, XANGORAVIT_ANSWER);
+}
+
+static int resume(const struct problem *q, double *s, uint64_t budget) {
+    size_t n = q->n, p = q->p;
+    return !xangoravit_resume(n, p, q->x, n * p, q->y, n, settings, XANGORAVIT_SETTINGS, record, XANGORAVIT_RECORD, s, LENT, s + LENT, p, budget, answer, XANGORAVIT_ANSWER);
+}
+
+// Whole fits, each started anew and resumed once. Weights and intercept go behind the scratch that a fit may need.
+static size_t fit(const struct problem *q, size_t count, double *s) {
+    for (size_t i = 0; i < count; i++)
+        if (!start(q, s) || !resume(q, s, UINT64_MAX)) return 0;
+    if (answer[XANGORAVIT_KIND] != (settings[XANGORAVIT_TOL] ? XANGORAVIT_CONVERGED : XANGORAVIT_LIMIT)) return 0;
+    memcpy(s + LENT + q->p, answer + XANGORAVIT_LAST, sizeof *s);
+    return LENT;
+}
+
+// A fit in its first round, before a trial, at the places of crate layout: half of the first vector as the weights, a tenth of the right side as the direction, bounds
+// and t of 1. phi and gdx are 0, so that no trial is accepted.
+static int before_trial(const struct problem *q, double *s) {
+    size_t p = q->p;
+    const uint64_t one = bits_of(1.0), before[XANGORAVIT_RECORD] = {2, 0, 0, 1, 1, 0, one, one};
+    if (!start(q, s)) return 0;
+    for (size_t i = 0; i < p; i++) s[i] = 0.5 * q->vectors[i];
+    for (size_t i = 0; i < 2 * p; i++) s[14 * p + i] = 0.1 * q->given[6 * p + i];
+    memcpy(record, before, sizeof before);
+    return 1;
+}
+
+// Trials in one call, or in a call each.
+static size_t trials(const struct problem *q, size_t count, size_t calls, double *s) {
+    for (size_t i = 0; i < calls; i++)
+        if (!resume(q, s, count / calls)) return 0;
+    return record[0] == 2 && record[1] == count ? LENT : 0;
+}
+
+// What trials leave: neww, newu, newf, newz and the halved step.
+static void gather(const struct problem *q, double *s) {
+    size_t n = q->n, p = q->p;
+    double *to = s + LENT;
+    memcpy(to, s + 2 * p, 2 * p * sizeof *s);
+    memcpy(to + 2 * p, s + 6 * p, 2 * p * sizeof *s);
+    memcpy(to + 4 * p, s + xangoravit_scratch(n, p, settings) - (settings[XANGORAVIT_LAZY] ? 1 : 1 + p) * (n + p), (n + p) * sizeof *s);
+    to[5 * p + n] = of_bits(record[7]);
+}
+
+static size_t predict(const struct problem *q, size_t count, double *s) {
+    size_t n = q->n, p = q->p;
+    for (size_t i = 0; i < count; i++)
+        if (xangoravit_predict(n, p, q->x, n * p, q->vectors, p, q->vectors[p], s + LENT, n, answer, XANGORAVIT_ANSWER)) return 0;
+    return LENT;
 }
 
 static size_t call(enum side side, size_t what, const struct problem *q, size_t count, double *s, size_t words) {
     size_t n = q->n, p = q->p, vectors = n + 2 * p;
     switch (side) {
     case ROUND: return measure_round(q->gram, p * p, q->given, 8 * p, p, TOL, count, s, words);
-    case FIT: return fit(what, q, count, s, words);
+    case FIT: return fit(q, count, s);
+    case TRIAL: return trials(q, count, 1, s);
+    case STEP: return trials(q, count, count, s);
+    case PREDICT: return predict(q, count, s);
     case LAZY: return measure_lazy(what, q->x, n * p, q->vectors, vectors, n, p, ALPHA, L1_RATIO, PANEL_ROWS, PANEL_COLS, count, s, words);
     default: return measure_eager(what, q->x, n * p, q->vectors, vectors, n, p, ALPHA, L1_RATIO, count, s, words);
     }
 }
 
-// What a piece finds in the scratch: nothing; statistics and vectors; these and the stored design.
+// What a piece finds in the scratch: nothing; a paused fit; statistics and vectors; these and the stored design.
 static int ready(const struct piece *of, const struct problem *q, double *s, size_t words) {
-    if (of->side == ROUND || of->side == FIT) return 1;
+    if (of->side == ROUND || of->side == FIT || of->side == PREDICT) return 1;
+    if (of->side == TRIAL || of->side == STEP) return before_trial(q, s);
     if (!call(of->side, 0, q, 1, s, words)) return 0;
     return of->side == LAZY || of->what <= 2 || call(EAGER, 2, q, 1, s, words);
 }
 
 static size_t length(const struct piece *of, size_t n, size_t p) {
     size_t lengths[] = {0, 2 * p, (n + p) * p, p * p, n + p, p};
-    return of->side == ROUND ? 2 * p : of->side == FIT ? p + 1 : lengths[of->what];
+    switch (of->side) {
+    case ROUND: return 2 * p;
+    case FIT: return p + 1;
+    case TRIAL:
+    case STEP: return n + 5 * p + 1;
+    case PREDICT: return n;
+    default: return lengths[of->what];
+    }
 }
 
 static uint64_t now(void) {
@@ -163,11 +223,13 @@ static uint64_t sum_of(const double *values, size_t count) {
 int main(int argc, char **argv) {
     if (argc != 6) fail("usage: driver PIECE N P COUNT CALLS");
     const struct piece *of = NULL;
+    const char *name = strtok(argv[1], ":"), *limit = strtok(NULL, ":");
     for (size_t i = 0; i < sizeof pieces / sizeof *pieces; i++)
-        if (!strcmp(argv[1], pieces[i].name)) of = pieces + i;
+        if (name && !strcmp(name, pieces[i].name)) of = pieces + i;
     size_t n = strtoul(argv[2], NULL, 10), p = strtoul(argv[3], NULL, 10), count = strtoul(argv[4], NULL, 10), calls = strtoul(argv[5], NULL, 10);
     if (!of || n < 2 || n > 4096 || p < 1 || p > 64 || count < 1 || calls < 1) fail("no such piece, or a size is wrong");
     struct problem q = problem(n, p);
+    set(of->what, limit);
     double *s = room(WORDS);
     uint64_t best = UINT64_MAX;
     size_t at = 0;
@@ -180,6 +242,9 @@ int main(int argc, char **argv) {
         if (!at) fail("refused");
         if (taken < best) best = taken;
     }
-    printf("%s %zu %zu %zu %016" PRIx64 " %" PRIu64 "\n", of->name, n, p, count, sum_of(s + at, length(of, n, p)), best);
+    if (of->side == TRIAL || of->side == STEP) gather(&q, s);
+    printf("%s %zu %zu %zu %016" PRIx64 " %" PRIu64, of->name, n, p, count, sum_of(s + at, length(of, n, p)), best);
+    for (size_t i = XANGORAVIT_COUNT_ROUNDS; of->side == FIT && i < XANGORAVIT_LAST; i++) printf(" %" PRIu64, answer[i]);
+    printf("\n");
     return 0;
 }

@@ -1,4 +1,4 @@
 pub mod Turns
 pub mod Commute
 pub mod Norms
-mod Scans
+pub mod Scans

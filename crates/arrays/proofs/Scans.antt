@@ -34,24 +34,24 @@ not-below nan h = refl
 not-below (inf s) h = refl
 not-below (fin s m e) h = absurd (subst T h tt)
 
-bad : (i : ℕ) (x : Float) (xs : List Float) → finite x ≡ false → firstInfinite i (x ∷ xs) ≡ At i
+pub scan-bad : (i : ℕ) (x : Float) (xs : List Float) → finite x ≡ false → firstInfinite i (x ∷ xs) ≡ At i
 unfolding firstInfinite
-bad i nan xs h = refl
-bad i (inf s) xs h = refl
-bad i (fin s m e) xs h = absurd (subst T h tt)
+scan-bad i nan xs h = refl
+scan-bad i (inf s) xs h = refl
+scan-bad i (fin s m e) xs h = absurd (subst T h tt)
 
-good : (i : ℕ) (x : Float) (xs : List Float) → finite x ≡ true → firstInfinite i (x ∷ xs) ≡ firstInfinite (i + 1) xs
+pub scan-good : (i : ℕ) (x : Float) (xs : List Float) → finite x ≡ true → firstInfinite i (x ∷ xs) ≡ firstInfinite (i + 1) xs
 unfolding firstInfinite
-good i nan xs h = absurd (subst T (sym h) tt)
-good i (inf s) xs h = absurd (subst T (sym h) tt)
-good i (fin s m e) xs h = refl
+scan-good i nan xs h = absurd (subst T (sym h) tt)
+scan-good i (inf s) xs h = absurd (subst T (sym h) tt)
+scan-good i (fin s m e) xs h = refl
 
 pub scan-stops : (s : List Float) (i : ℕ) → i < length s → finite (getD s i nan) ≡ false → firstInfinite i (drop i s) ≡ At i
-scan-stops s i h e = ap (firstInfinite i) (drop-cons s i nan h) ∙ bad i (getD s i nan) (drop (suc i) s) e
+scan-stops s i h e = ap (firstInfinite i) (drop-cons s i nan h) ∙ scan-bad i (getD s i nan) (drop (suc i) s) e
 
 pub scan-goes-on : (s : List Float) (i : ℕ) → i < length s → finite (getD s i nan) ≡ true → firstInfinite i (drop i s) ≡ firstInfinite (i + 1) (drop (i + 1) s)
 scan-goes-on s i h e =
-    ap (firstInfinite i) (drop-cons s i nan h) ∙ good i (getD s i nan) (drop (suc i) s) e ∙ ap (λ (k : ℕ). firstInfinite (i + 1) (drop k s)) (sym (add-one i))
+    ap (firstInfinite i) (drop-cons s i nan h) ∙ scan-good i (getD s i nan) (drop (suc i) s) e ∙ ap (λ (k : ℕ). firstInfinite (i + 1) (drop k s)) (sym (add-one i))
 
 pub scan-ends : (s : List Float) (i : ℕ) → length s ≤ i → firstInfinite i (drop i s) ≡ Clean
 unfolding firstInfinite

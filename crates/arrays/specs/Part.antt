@@ -9,7 +9,7 @@ use native.Mathlib.Numerals.{add-one}
 use native.Mathlib.Decide.{decLt}
 use native.Mathlib.Omega.{arith}
 use lib.ListN.{length, getD, set, take, drop, length-append, length-drop, drop-of-length-le, List·getD-append}
-use lib.Seq.{sets, length-sets, sets-eq, length-take-le, take-set-le, drop-set-lt, drop-set-add, set-comm, set-set, take-at, drop-at}
+use lib.Seq.{sets, length-sets, sets-eq, length-take-le, take-all, take-set-le, drop-set-lt, drop-set-add, set-comm, set-set, take-at, drop-at}
 use lib.Seq.{getD-set-other, getD-take, getD-drop, getD-append-add, ext-getD, take-take, drop-drop}
 
 -- the n elements from a and the k from b have none in common
@@ -205,7 +205,11 @@ module _ {A : Type 0} where
   unfolding put
   getD-put-below s a xs j d h = sets-other s a xs j d (inr h)
 
-  -- ---- a put of the whole
+  -- ---- a part that is the whole, and a put of the whole
+
+  pub part-all : (s : List A) (n : ℕ) → length s ≡ n → part s 0 n ≡ s
+  unfolding part
+  part-all s n h = take-all n s (omega arith)
 
   pub put-all : (s xs : List A) → length xs ≡ length s → put s 0 xs ≡ xs
   unfolding put

@@ -8,6 +8,7 @@ use native.Mathlib.Omega.{arith}
 use borrow.Author.Tests.{eq-eqb, ne-eqb}
 use lib.ListN.{length}
 use lib.Ieee.{Float, neg}
+use Rattle.numbers.specs.Constants.{one}
 use Rattle.arrays.specs.Part.{put}
 use Rattle.arrays.specs.Sums.{plus0}
 use Rattle.arrays.specs.Vectors.{fillOf, length-fill}
@@ -18,7 +19,7 @@ use Rattle.layout.specs.Slots.{Store, Has, Laid, vars, rest, words, then, next,
 use Rattle.layout.specs.Slots.{Slot.U, Slot.F}
 use Rattle.lazy_normalization.specs.Lazy.{recipStore}
 use Rattle.lazy_gram.specs.Gram.{lazyGramStore, Lent}
-use Rattle.design.specs.Statistics.{one, Given}
+use Rattle.design.specs.Statistics.{Given}
 use Rattle.design.specs.Eager.{designStore, gramStore}
 use Rattle.beginning.specs.Start.{Begins, blankStore, preparedStore}
 

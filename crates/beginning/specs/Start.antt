@@ -5,6 +5,7 @@ use mathlib.Core.List.{List}
 use Prim.Native.Nat.{_+_, _*_, _≤_}
 use lib.ListN.{length}
 use lib.Ieee.{Float, neg}
+use Rattle.numbers.specs.Constants.{one}
 use Rattle.arrays.specs.Sums.{plus0}
 use Rattle.arrays.specs.Vectors.{fillOf}
 use Rattle.settings.specs.declared.Terms.{Terms}
@@ -14,7 +15,7 @@ use Rattle.layout.specs.Slots.{Store, Room, all-of, _⟨_≔_⟩}
 use Rattle.layout.specs.Slots.{Slot.U, Slot.F}
 use Rattle.lazy_normalization.specs.Lazy.{recipStore}
 use Rattle.lazy_gram.specs.Gram.{lazyGramStore}
-use Rattle.design.specs.Statistics.{one, statisticsStore, targetsStore}
+use Rattle.design.specs.Statistics.{statisticsStore, targetsStore}
 use Rattle.design.specs.Eager.{designStore, gramStore}
 use Rattle.design.specs.Mode.{isLazy}
 

@@ -1,7 +1,1 @@
-pub mod Checks
-mod Keeping
-mod Turning
-mod Looping
-mod Running
-mod Outcomes
-pub mod LoneSolver
+pub mod Lengths

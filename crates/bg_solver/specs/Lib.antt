@@ -1,4 +1,2 @@
 pub mod Solver
 pub mod Shared
-pub mod Lone
-pub mod Solve

@@ -1,3 +1,2 @@
-// The biconjugate gradient solver of bg_solver.rs: what its two users share, and the lone solver.
-pub mod lone;
+// The biconjugate gradient solver of bg_solver.rs: what its two users, lone_solver and inner_solver, share.
 pub mod shared;

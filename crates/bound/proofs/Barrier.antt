@@ -16,8 +16,9 @@ use Rattle.numbers.specs.Ops.{_⊗_, _⊘_}
 use Rattle.numbers.specs.Order.{maximumOf, minimumOf}
 use Rattle.numbers.proofs.Extremes.{maximum-cases, minimum-cases}
 use Rattle.numbers.proofs.PowersOfTwo.{le-self, power-le, double-positive, double-le}
+use Rattle.numbers.specs.Constants.{half}
 use Rattle.arrays.specs.Sums.{whole}
-use Rattle.newton.specs.Newton.{half, eta, startT, nextT}
+use Rattle.newton.specs.Newton.{eta, startT, nextT}
 use Rattle.bound.specs.Kept.{power2, Bounded}
 
 pub bounded-positive : (k : ℕ) (t : Float) → Bounded k t → T (positive t)

@@ -9,10 +9,11 @@ use lib.ListN.{length}
 use lib.Ieee.{Float, nan, neg, lt, ofBits}
 use Rattle.numbers.specs.Kinds.{unsigned}
 use Rattle.numbers.proofs.Sign.{positive-unsigned}
+use Rattle.numbers.specs.Constants.{one}
 use Rattle.arrays.specs.Part.{getD-tab}
 use Rattle.arrays.specs.Sums.{_!_, plus0, sumOf}
 use Rattle.arrays.specs.Vectors.{fillOf, length-fill}
-use Rattle.newton.specs.Newton.{one, startT, nextT}
+use Rattle.newton.specs.Newton.{startT, nextT}
 use Rattle.line_search.specs.Search.{facesOf, largestOf, sumlognegOf, phiOf, decreases}
 use Rattle.bound.specs.Kept.{Inside, Bounded, Kept}
 use Rattle.bound.proofs.Barrier.{bounded-positive, later, start-bounded, next-bounded}

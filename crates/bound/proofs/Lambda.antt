@@ -10,8 +10,9 @@ use lib.Ieee.Positive.{positive}
 use Rattle.numbers.specs.Kinds.{unsigned}
 use Rattle.numbers.specs.Ops.{_⊗_}
 use Rattle.numbers.specs.Order.{maximumOf}
+use Rattle.numbers.specs.Constants.{epsilon}
 use Rattle.settings.specs.declared.Settings.{Settings}
-use Rattle.settings.specs.Settings.{l1Of, l2Of, gammaOf, epsilon, termsOf}
+use Rattle.settings.specs.Settings.{l1Of, l2Of, gammaOf, termsOf}
 
 either : (c : Bool) (x y : Float) → T (unsigned x) → T (unsigned y) → T (unsigned (cond c y x))
 either true x y p q = q

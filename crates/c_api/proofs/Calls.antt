@@ -19,13 +19,13 @@ use Rattle.elastic_net.specs.ElasticNet.{said, saidS, outcome, begun, resumeOf,
 use Rattle.prediction.specs.declared.Predicted.{Predicted}
 use Rattle.prediction.specs.declared.Predicted.the-variants.{Done as DoneP, Refused as RefusedP}
 use Rattle.prediction.specs.Predict.{Outcome.outcome as outcomeP, predictOf}
-use Rattle.bg_solver.specs.declared.lone.Answer.{Answer as AnswerL}
-use Rattle.bg_solver.specs.declared.lone.Answer.the-variants.{Solved as SolvedL, Refused as RefusedL}
-use Rattle.bg_solver.specs.Solve.{Outcome.outcome as outcomeL, solveOf}
-use Rattle.c_api.specs.declared.Told.{Told}
-use Rattle.c_api.specs.Words.{settingsFrom, pausedFrom, pausedWords, answerWords, keeps}
-use Rattle.c_api.specs.Calls.{called, resumedAs, resumeWords, startedSaid, startedRecord, startedAs, startWords}
-use Rattle.c_api.specs.Calls.{predictedAs, predictWords, solvedAs, solveWords, toldOf, toldPredicted, toldSolved, toldWords}
+use Rattle.lone_solver.specs.declared.Answer.{Answer as AnswerL}
+use Rattle.lone_solver.specs.declared.Answer.the-variants.{Solved as SolvedL, Refused as RefusedL}
+use Rattle.lone_solver.specs.Solve.{Outcome.outcome as outcomeL, solveOf}
+use Rattle.c_words.specs.declared.Told.{Told}
+use Rattle.c_words.specs.Words.{settingsFrom, pausedFrom, pausedWords, toldWords}
+use Rattle.c_api.specs.Answers.{answerWords, keeps, toldOf, toldPredicted, toldSolved}
+use Rattle.c_api.specs.Calls.{called, resumedAs, resumeWords, startedSaid, startedRecord, startedAs, startWords, predictedAs, predictWords, solvedAs, solveWords}
 
 -- ---- the words that are due
 

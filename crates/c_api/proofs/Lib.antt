@@ -1,4 +1,2 @@
-pub mod Words
-mod Writing
 mod Telling
 mod Calls

@@ -1,28 +1,21 @@
 -- What an answer says, case by case. Assumes nothing.
 use mathlib.Core.Path.{_≡_, refl}
 use mathlib.Core.Bool.{false, not}
-use Prim.Native.Nat.{ℕ, zero, suc}
+use Prim.Native.Nat.{ℕ}
 use lib.Dec.{eqb}
 use lib.Ieee.{Float}
 use borrow.Author.Tests.{ne-eqb}
 use Rattle.refusal.specs.declared.Refusal.{Refusal}
 use Rattle.refusal.specs.Refusal.{numberOf}
 use Rattle.stages.specs.declared.Counts.{Counts}
-use Rattle.stages.specs.declared.Stage.the-variants.{Ended}
 use Rattle.elastic_net.specs.declared.Way.{Way}
 use Rattle.elastic_net.specs.declared.Way.the-variants.{Converged, Limit}
 use Rattle.elastic_net.specs.declared.Answer.{Answer}
 use Rattle.elastic_net.specs.declared.Answer.the-variants.{Done, Refused}
 use Rattle.elastic_net.specs.ElasticNet.{said}
-use Rattle.c_api.specs.declared.Told.{Told}
-use Rattle.c_api.specs.Words.{bits, stageFrom, keeps}
-use Rattle.c_api.specs.Calls.{toldOf, wayOf}
-
-pub unknown : (k i : ℕ) → (k ≡ 0 → ⊥) → (k ≡ 1 → ⊥) → (k ≡ 2 → ⊥) → Ended ≡ stageFrom k i
-unknown zero i a b c = absurd (a refl)
-unknown (suc zero) i a b c = absurd (b refl)
-unknown (suc (suc zero)) i a b c = absurd (c refl)
-unknown (suc (suc (suc k))) i a b c = refl
+use Rattle.c_values.specs.Values.{bits}
+use Rattle.c_words.specs.declared.Told.{Told}
+use Rattle.c_api.specs.Answers.{keeps, toldOf, wayOf}
 
 done : (b : Float) (w : Way) (c : Counts) → _≡_ {A = Told} (record { kind = wayOf w; number = 0; place = 0; last = bits b }) (toldOf (said (Done b w c)))
 done b Converged c = refl

@@ -6,21 +6,17 @@ use lib.Dec.{eqb}
 use lib.ListN.{length}
 use lib.Ieee.{Float}
 use Rattle.pause.specs.Parts.{none}
-use Rattle.stages.specs.declared.Counts.{Counts}
 use Rattle.stages.specs.Stage.{countsBack}
-use Rattle.elastic_net.specs.declared.Way.{Way}
-use Rattle.elastic_net.specs.declared.Way.the-variants.{Converged as ConvergedW, Limit as LimitW}
 use Rattle.elastic_net.specs.ElasticNet.{Said, pending, refused, Outcome, SaidS, ready, refusedS, Begun, resumeOf, startOf}
 use Rattle.refusal.specs.declared.Refusal.{Refusal}
 use Rattle.refusal.specs.Refusal.{numberOf, placeOf}
-use Rattle.prediction.specs.declared.Predicted.{Predicted}
 use Rattle.prediction.specs.declared.Predicted.the-variants.{Done as DoneP, Refused as RefusedP}
 use Rattle.prediction.specs.Predict.{Outcome as OutcomeP, Outcome.outcome as outcomeP, predictOf}
-use Rattle.bg_solver.specs.declared.lone.Answer.{Answer as AnswerL}
-use Rattle.bg_solver.specs.declared.lone.Answer.the-variants.{Solved as SolvedL, Refused as RefusedL}
-use Rattle.bg_solver.specs.Solve.{Outcome as OutcomeL, Outcome.outcome as outcomeL, solveOf}
-use Rattle.c_api.specs.declared.Told.{Told}
-use Rattle.c_api.specs.Words.{bits, settingsFrom, pausedFrom, pausedWords, kindOf, numberIn, placeIn, interceptIn, answerWords, keeps}
+use Rattle.lone_solver.specs.declared.Answer.the-variants.{Solved as SolvedL, Refused as RefusedL}
+use Rattle.lone_solver.specs.Solve.{Outcome as OutcomeL, Outcome.outcome as outcomeL, solveOf}
+use Rattle.c_values.specs.Values.{bits}
+use Rattle.c_words.specs.Words.{settingsFrom, pausedFrom, pausedWords}
+use Rattle.c_api.specs.Answers.{numberIn, answerWords, keeps}
 
 -- the number of a refusal, or 0; the record's and the answer's words, weights and scratch
 pub data Called : Type 0 where
@@ -78,23 +74,3 @@ solvedAs (outcomeL (RefusedL r) x s) = refusedAs r x s
 -- n, matrix, right side, start and solution, tolerance, limit, scratch, answer
 unfoldable pub solveWords : ℕ → List Float → List Float → List Float → Float → ℕ → List Float → List ℕ → Called
 solveWords n a b x tol limit s aw = cond (eqb (length aw) 7) (solvedAs (solveOf n a b x tol limit s)) (called 2 [] aw x s)
-
--- ---- what the inner functions answer
-
-abbrev pub toldOf : Said → Told
-toldOf a = record { kind = kindOf a; number = numberIn a; place = placeIn a; last = interceptIn a }
-
-abbrev pub wayOf : Way → ℕ
-wayOf ConvergedW = 1
-wayOf LimitW = 2
-
-abbrev pub toldPredicted : Predicted → Told
-toldPredicted DoneP = record { kind = 1; number = 0; place = 0; last = 0 }
-toldPredicted (RefusedP r) = toldOf (refused (numberOf r) (placeOf r))
-
-abbrev pub toldSolved : AnswerL → Told
-toldSolved (SolvedL e) = record { kind = 1; number = 0; place = 0; last = bits e }
-toldSolved (RefusedL r) = toldOf (refused (numberOf r) (placeOf r))
-
-abbrev pub toldWords : Told → Counts → List ℕ
-toldWords t c = t .kind ∷ t .number ∷ t .place ∷ c .rounds .0 ∷ c .solver .0 ∷ c .trials .0 ∷ t .last ∷ []

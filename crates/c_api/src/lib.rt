@@ -1,181 +1,34 @@
-// The calls for C and Rust: plain numbers and slices (in C a pointer and a length), with settings, record and answer as words (specs/Words.antt says which).
+// The calls for C and Rust: plain numbers and slices (in C a pointer and a length), with settings, record and answer as words (crate c_words says which).
 // Each returns the number of the refusal, 0 where there is none; words of another number than due are refusal 2, and then nothing is written.
-use bg_solver::lone;
-use bg_solver::lone::solve;
+use c_words::Told;
+use c_words::paused_from;
+use c_words::settings_from;
+use c_words::write_answer;
+use c_words::write_paused;
 use elastic_net::Answer;
 use elastic_net::Started;
 use elastic_net::Way;
 use elastic_net::resume;
 use elastic_net::start;
-use lasso_optimizer::Scalars;
+use lone_solver::solve;
 use numbers::bits::bits_of;
-use numbers::bits::of_bits;
 use prediction::Predicted;
 use prediction::predict;
 use records::no_counts;
 use refusal::Refusal;
 use refusal::number;
 use refusal::place;
-use settings::Settings;
-use stages::Counts;
 use stages::Paused;
-use stages::Rounds;
-use stages::SolverRounds;
-use stages::Stage;
-use stages::Trials;
 ghost use mathlib.Core.Path.{_≡_};
 ghost use mathlib.Core.Bool.{_&&_, cond};
 ghost use mathlib.Core.List.{[]};
 ghost use lib.Dec.{eqb};
 ghost use lib.ListN.{length};
-ghost use lib.Seq.{sets};
 ghost use Rattle.refusal.specs.Refusal.{numberOf, placeOf};
 ghost use Rattle.elastic_net.specs.ElasticNet.{Said.refused as refusedSaid, said, saidS};
-ghost use Rattle.c_api.specs.Words.{settingsFrom, stageFrom, scalarsFrom, pausedFrom, stageWord, indexWord, truthWord, scalarsWords, pausedWords, keeps};
-ghost use Rattle.c_api.specs.Calls.{Called.called, resumeWords, startedSaid, startedRecord, startWords, predictWords, solveWords, toldOf, toldPredicted, toldSolved, toldWords, wayOf};
-
-// The words of an answer, but for its counts.
-struct Told {
-    kind: u64,
-    number: u64,
-    place: u64,
-    last: u64,
-}
-
-fn settings_from(w: &[u64]) -> Settings
-    requires { ⌜ length (now w) ≡ 8 ⌝ }
-    ensures { λ r. ⌜ r ≡ settingsFrom (now (w .entry)) ⌝ }
-{
-    let normalise = w[6] != 0;
-    let lazy = w[7] != 0;
-    Settings {
-        alpha: of_bits(w[0]),
-        l1_ratio: of_bits(w[1]),
-        tol: of_bits(w[2]),
-        rounds: w[3],
-        panel_rows: w[4] as usize,
-        panel_cols: w[5] as usize,
-        normalise,
-        lazy,
-    }
-}
-
-// An unknown stage is one that has ended: refusal 9.
-fn stage_from(k: u64, i: u64) -> Stage
-    ensures { λ r. ⌜ r ≡ stageFrom k i ⌝ }
-{
-    if k == 0 {
-        return Stage::Opening;
-    }
-    if k == 1 {
-        return Stage::Solving(i);
-    }
-    if k == 2 {
-        return Stage::Searching(i);
-    }
-    Stage::Ended
-}
-
-fn scalars_from(w: &[u64]) -> Scalars
-    requires { ⌜ length (now w) ≡ 16 ⌝ }
-    ensures { λ r. ⌜ r ≡ scalarsFrom (now (w .entry)) ⌝ }
-{
-    let missed = w[15] != 0;
-    Scalars {
-        t: of_bits(w[6]),
-        s: of_bits(w[7]),
-        dual: of_bits(w[8]),
-        tol: of_bits(w[9]),
-        bnrm: of_bits(w[10]),
-        bkden: of_bits(w[11]),
-        error: of_bits(w[12]),
-        phi: of_bits(w[13]),
-        gdx: of_bits(w[14]),
-        missed,
-    }
-}
-
-fn paused_from(w: &[u64]) -> Paused
-    requires { ⌜ length (now w) ≡ 16 ⌝ }
-    ensures { λ r. ⌜ r ≡ pausedFrom (now (w .entry)) ⌝ }
-{
-    let stage = stage_from(w[0], w[1]);
-    let scalars = scalars_from(w);
-    let counts = Counts {
-        rounds: Rounds(w[3]),
-        solver: SolverRounds(w[4]),
-        trials: Trials(w[5]),
-    };
-    Paused {
-        stage,
-        round: w[2],
-        counts,
-        scalars,
-    }
-}
-
-fn stage_word(g: Stage) -> u64
-    ensures { λ r. ⌜ r ≡ stageWord g ⌝ }
-{
-    match g {
-        Stage::Opening => 0,
-        Stage::Solving(_) => 1,
-        Stage::Searching(_) => 2,
-        Stage::Ended => 3,
-    }
-}
-
-fn index_word(g: Stage) -> u64
-    ensures { λ r. ⌜ r ≡ indexWord g ⌝ }
-{
-    match g {
-        Stage::Opening => 0,
-        Stage::Solving(k) => k,
-        Stage::Searching(j) => j,
-        Stage::Ended => 0,
-    }
-}
-
-fn truth_word(b: bool) -> u64
-    ensures { λ r. ⌜ r ≡ truthWord b ⌝ }
-{
-    if b { 1 } else { 0 }
-}
-
-fn write_scalars(a: Scalars, out: &mut [u64])
-    requires { ⌜ length (now out) ≡ 16 ⌝ }
-    ensures { λ _. ⌜ now (out .exit) ≡ sets (now (out .entry)) 6 (scalarsWords a) ⌝ }
-{
-    out[6] = bits_of(a.t);
-    out[7] = bits_of(a.s);
-    out[8] = bits_of(a.dual);
-    out[9] = bits_of(a.tol);
-    out[10] = bits_of(a.bnrm);
-    out[11] = bits_of(a.bkden);
-    out[12] = bits_of(a.error);
-    out[13] = bits_of(a.phi);
-    out[14] = bits_of(a.gdx);
-    out[15] = truth_word(a.missed);
-}
-
-fn write_paused(a: Paused, out: &mut [u64])
-    requires { ⌜ length (now out) ≡ 16 ⌝ }
-    ensures { λ _. ⌜ now (out .exit) ≡ pausedWords a ⌝ }
-{
-    let stage = a.stage;
-    let c = a.counts;
-    let v = a.scalars;
-    let n = c.rounds;
-    let b = c.solver;
-    let t = c.trials;
-    out[0] = stage_word(stage);
-    out[1] = index_word(stage);
-    out[2] = a.round;
-    out[3] = n.0;
-    out[4] = b.0;
-    out[5] = t.0;
-    write_scalars(v, out);
-}
+ghost use Rattle.c_words.specs.Words.{pausedWords};
+ghost use Rattle.c_api.specs.Answers.{keeps, toldOf, toldPredicted, toldSolved, wayOf};
+ghost use Rattle.c_api.specs.Calls.{Called.called, resumeWords, startedSaid, startedRecord, startWords, predictWords, solveWords};
 
 // Whether the record's words stay as they were: a refusal but for 7 and 8.
 fn stays(a: Answer) -> bool
@@ -211,22 +64,6 @@ fn write_started(o: Started, out: &mut [u64])
     if let Started::Ready(a) = o {
         write_paused(a, out);
     }
-}
-
-fn write_answer(t: Told, c: Counts, out: &mut [u64])
-    requires { ⌜ length (now out) ≡ 7 ⌝ }
-    ensures { λ _. ⌜ now (out .exit) ≡ toldWords t c ⌝ }
-{
-    let n = c.rounds;
-    let b = c.solver;
-    let k = c.trials;
-    out[0] = t.kind;
-    out[1] = t.number;
-    out[2] = t.place;
-    out[3] = n.0;
-    out[4] = b.0;
-    out[5] = k.0;
-    out[6] = t.last;
 }
 
 fn refused(r: Refusal) -> Told
@@ -297,17 +134,17 @@ fn predicted(o: Predicted) -> Told
     }
 }
 
-fn solved(o: lone::Answer) -> Told
+fn solved(o: lone_solver::Answer) -> Told
     ensures { λ r. ⌜ r ≡ toldSolved o ⌝ }
 {
     match o {
-        lone::Answer::Solved(e) => Told {
+        lone_solver::Answer::Solved(e) => Told {
             kind: 1,
             number: 0,
             place: 0,
             last: bits_of(e),
         },
-        lone::Answer::Refused(r) => refused(r),
+        lone_solver::Answer::Refused(r) => refused(r),
     }
 }
 

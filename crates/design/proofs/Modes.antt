@@ -1,10 +1,9 @@
 -- A product by mode: what it asks of its places, and that its answer is that of the mode. Assumes nothing.
-use mathlib.Core.Path.{_≡_, sym, ap, _∙_}
+use mathlib.Core.Path.{_≡_, ap, _∙_}
 use mathlib.Core.List.{List}
 use Prim.Native.Nat.{ℕ, _+_, _*_, _≤_}
 use native.Mathlib.Omega.{arith}
 use borrow.Author.Tests.{eq-eqb, ne-eqb}
-use lib.ListN.{length}
 use lib.Ieee.{Float}
 use Rattle.arrays.specs.Part.{part, put}
 use Rattle.matrices.specs.Products.{rowsOf, columnsOf, Within}

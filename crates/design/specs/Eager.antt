@@ -9,7 +9,7 @@ use Rattle.arrays.specs.Sums.{_!_, products, plus0}
 use Rattle.matrices.specs.Grid.{grid}
 use Rattle.settings.specs.declared.Terms.{Terms}
 use Rattle.layout.specs.declared.Sizes.{Sizes}
-use Rattle.layout.specs.Slots.{Slot, Store, _⟨_≔_⟩}
+use Rattle.layout.specs.Slots.{Store, _⟨_≔_⟩}
 use Rattle.layout.specs.Slots.{Slot.CENTRE, Slot.SCALE, Slot.DESIGN, Slot.GRAM}
 
 -- gamma times the matrix, normalised or raw, in n rows; below, padding on the diagonal of p rows of +0

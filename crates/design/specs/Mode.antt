@@ -2,7 +2,7 @@
 use mathlib.Core.Path.{_≡_}
 use mathlib.Core.Bool.{Bool, cond}
 use mathlib.Core.List.{List}
-use Prim.Native.Nat.{ℕ, _+_, _*_, _≤_}
+use Prim.Native.Nat.{_+_, _*_, _≤_}
 use lib.Dec.{eqb}
 use lib.ListN.{length}
 use lib.Ieee.{Float}
@@ -10,7 +10,7 @@ use Rattle.matrices.specs.Products.{rowsOf, columnsOf}
 use Rattle.settings.specs.declared.Terms.{Terms}
 use Rattle.layout.specs.declared.Sizes.{Sizes}
 use Rattle.layout.specs.declared.Places.{Places}
-use Rattle.layout.specs.Slots.{Slot, Store, Room}
+use Rattle.layout.specs.Slots.{Store, Room}
 use Rattle.layout.specs.Slots.{Slot.CENTRE, Slot.SCALE, Slot.RECIP, Slot.DESIGN}
 use Rattle.lazy_normalization.specs.Lazy.{lazyRows, lazyColumns}
 

@@ -5,7 +5,8 @@ use mathlib.Core.Path.{_≡_}
 use Prim.Native.Nat.{ℕ, zero, suc, _+_, _*_, _≤_}
 use lib.ListN.{length}
 use lib.Ieee.{Float, lt}
-use Rattle.numbers.specs.Ops.{_⊖_, f64, magnitudeOf}
+use Rattle.numbers.specs.Ops.{_⊖_, magnitudeOf}
+use Rattle.numbers.specs.Constants.{one, epsilon}
 use Rattle.arrays.specs.Part.{part, tab}
 use Rattle.arrays.specs.Sums.{plus0, meanOf}
 use Rattle.arrays.specs.Vectors.{mapOf, fillOf}
@@ -14,15 +15,8 @@ use Rattle.arrays.specs.declared.scan.Found.the-variants.{Clean, At}
 use Rattle.matrices.specs.Stats.{columnMeanOf, deviationOf}
 use Rattle.layout.specs.declared.Sizes.{Sizes}
 use Rattle.layout.specs.declared.Places.{Places}
-use Rattle.layout.specs.Slots.{Slot, Store, Room, _⟨_≔_⟩}
+use Rattle.layout.specs.Slots.{Store, Room, _⟨_≔_⟩}
 use Rattle.layout.specs.Slots.{Slot.CENTRE, Slot.SCALE, Slot.Y}
-
-abbrev pub one : Float
-one = f64 0x3ff0_0000_0000_0000
-
--- 2 ^ -52
-abbrev pub epsilon : Float
-epsilon = f64 0x3cb0_0000_0000_0000
 
 -- normalization_stats refuses such a column; of a NaN deviation the test is false
 unfoldable pub isConstant : List Float → ℕ → ℕ → ℕ → Bool
@@ -67,12 +61,6 @@ pub record Given (sh : Sizes) (l : Places) (m s : List Float) : Type 0 where
   pub matrix : sh .n * sh .p ≤ length m
   pub rows : sh .n ≤ 4096
   pub columns : sh .p ≤ 64
-
-pub record Columns (m : List Float) (n p : ℕ) (s : List Float) (out : ℕ) : Type 0 where
-  pub matrix : n * p ≤ length m
-  pub rows : n ≤ 4096
-  pub columns : p ≤ 64
-  pub room : out + p ≤ length s
 
 -- n targets, and scratch
 pub record Targets (sh : Sizes) (l : Places) (ys s : List Float) : Type 0 where

@@ -1,5 +1,5 @@
 -- What the steps of a trial ask follows from what it is given, whatever was written meanwhile. Assumes nothing.
-use mathlib.Core.Path.{_≡_, refl, sym, _∙_}
+use mathlib.Core.Path.{_≡_, refl}
 use mathlib.Core.Bool.{Bool, true, false}
 use mathlib.Core.List.{List}
 use Prim.Native.Nat.{ℕ, _+_, _*_, _≤_}
@@ -17,7 +17,7 @@ use Rattle.layout.proofs.Laws.{small-sizes}
 use Rattle.design.specs.Mode.{Held}
 use Rattle.design.specs.Statistics as statistics
 use Rattle.lazy_gram.specs.Gram.{Lent}
-use Rattle.design_trial.specs.Trial.{Given, Fit, Asked, Ready, Looked}
+use Rattle.design_trial.specs.Trial.{Given, Fit, Asked, Looked}
 
 pub asked-of : {n p : ℕ} {m ys x v : List Float} {wanted : List ℕ} (st : Settings) → Given n p m ys x v wanted → Panels st
     → Asked (sizesOf n p st) m ys x v wanted

@@ -16,9 +16,10 @@ use numbers::bits::bits_of;
 use settings::Settings;
 use settings::Terms;
 use settings::terms_of;
+use stored::bits::all;
 use stored::bits::same;
 ghost use mathlib.Core.Path.{_≡_};
-ghost use Prim.Native.Nat.{_+_, _*_, _≤_};
+ghost use Prim.Native.Nat.{_+_, _≤_};
 ghost use lib.ListN.{length};
 ghost use Rattle.settings.specs.Settings.{Panels};
 ghost use Rattle.layout.specs.Slots.{words};
@@ -175,7 +176,7 @@ fn has_gram(sh: Sizes, l: Places, s: &[f64], wanted: &[u64]) -> bool
     if !holds(s, l.gram, p * p, wanted, at) {
         return false;
     }
-    zeros(s, l.left, l.sums)
+    all(s, l.left, l.sums, 0)
 }
 
 fn has_products(sh: Sizes, l: Places, s: &[f64], wanted: &[u64]) -> bool
@@ -203,16 +204,4 @@ fn holds(s: &[f64], a: usize, n: usize, wanted: &[u64], b: usize) -> bool
     requires { ⌜ (a + n ≤ length (now s)) × (b + n ≤ length (now wanted)) ⌝ }
 {
     same(&s[a..a + n], &wanted[b..b + n])
-}
-
-// From a up to b all are +0.
-fn zeros(s: &[f64], a: usize, b: usize) -> bool
-    requires { ⌜ b ≤ length (now s) ⌝ }
-{
-    for i in a..b {
-        if bits_of(s[i]) != 0 {
-            return false;
-        }
-    }
-    true
 }

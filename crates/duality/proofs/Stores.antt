@@ -4,6 +4,7 @@ use mathlib.Core.Bool.{true, false}
 use mathlib.Core.List.{List}
 use lib.Ieee.{Float, binary64, lt}
 use Rattle.numbers.specs.Ops.{_⊖_, _⊗_, _⊘_}
+use Rattle.numbers.specs.Constants.{two}
 use Rattle.arrays.specs.Part.{part, put}
 use Rattle.arrays.specs.Sums.{normInfOf}
 use Rattle.arrays.specs.Vectors.{mapOf, zipOf, length-map, length-zip}
@@ -14,7 +15,6 @@ use Rattle.layout.specs.declared.Places.{Places}
 use Rattle.layout.specs.Slots.{Store, Has, Laid, Room, vars, rest, off, start, then, next, got, words}
 use Rattle.layout.specs.Slots.{Slot.W, Slot.XNU, Slot.Y, Slot.Z, Slot.NU}
 use Rattle.design.specs.Mode.{matvecOf, transposedOf, Held}
-use Rattle.newton.specs.Newton.{two}
 use Rattle.lasso_optimizer.specs.Opening.{residualStore, shrunkStore, gapStore, primalOf, dualOf, gapOf}
 use Rattle.duality.specs.Gap.{DidGap}
 use Rattle.design.proofs.Lengths.{length-matvec, length-transposed}

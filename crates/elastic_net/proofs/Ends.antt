@@ -48,14 +48,14 @@ use Rattle.elastic_net.specs.ElasticNet.{Outcome, outcome, begun, failed
 
 -- ---- the steps of a call
 
-module _ (F : Parts Data) (M : ℕ) (a : Paused) (passes : possibleOf M a ≡ true) (b : ℕ) (sh : Sizes) (s : List Float) where
+module _ (F : Parts Data) (M : ℕ) (a : Paused) (b : ℕ) (sh : Sizes) (s : List Float) where
   pub stops : {l : Places} → spentAt M a ≡ true → Room sh l s → Did sh (rest sh s) (call F M b (stateOf a (vars sh s))) (Over Limit (a .counts)) s
   unfolding answer leftData howOf words
-  stops o h = rw (spent-over M a passes F o b (vars sh s)) (record { is = refl; left = start sh s (h .room) })
+  stops o h = rw (spent-over M a F o b (vars sh s)) (record { is = refl; left = start sh s (h .room) })
 
-  pub goes : {o : Stepped} {s′ : List Float} → spentAt M a ≡ false → Did sh (rest sh s) (run (step F M) b (stateOf a (vars sh s))) o s′
+  pub goes : {o : Stepped} {s′ : List Float} → possibleOf M a ≡ true → spentAt M a ≡ false → Did sh (rest sh s) (run (step F M) b (stateOf a (vars sh s))) o s′
       → Did sh (rest sh s) (call F M b (stateOf a (vars sh s))) o s′
-  goes o d = rw (unspent-run M a passes F o b (vars sh s)) d
+  goes passes o d = rw (unspent-run M a passes F o b (vars sh s)) d
 
 -- ---- an end
 

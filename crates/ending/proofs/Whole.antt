@@ -6,10 +6,10 @@ use Prim.Native.Nat.{ℕ, _+_, _≤_, _<_}
 use native.Mathlib.Nat.{zero-add}
 use native.Mathlib.Omega.{arith}
 use lib.ListN.{length, set, drop}
-use lib.Seq.{sets-eq, take-all}
+use lib.Seq.{sets-eq}
 use lib.Ieee.{Float, nan}
 use Rattle.numbers.specs.Ops.{_⊖_, _⊗_}
-use Rattle.arrays.specs.Part.{part, put, tab, length-part, length-tab, getD-part, put-all}
+use Rattle.arrays.specs.Part.{part, put, tab, length-part, length-tab, getD-part, part-all, put-all}
 use Rattle.arrays.specs.Sums.{_!_, plus0, meanOf, productOf}
 use Rattle.arrays.specs.Vectors.{mapOf, fillOf, length-fill}
 use Rattle.arrays.proofs.Turns.{Made, kept, made-more, made-all}
@@ -46,8 +46,7 @@ module _ (sh : Sizes) (l : Places) {s ys w₀ : List Float} (h : Ends sh l s ys 
       rw e at (q ∙ put-all w₀ (part s (l .w) (sh .p)) (length-part s (l .w) (sh .p) (omega arith) ∙ sym (h .weights)))
 
   averaged : {mu : Float} → mu ≡ meanOf (sh .n) (part ys 0 (sh .n)) → mu ≡ meanOf (sh .n) ys
-  unfolding part
-  averaged q = q ∙ ap (meanOf (sh .n)) (take-all (sh .n) ys (omega arith))
+  averaged q = q ∙ ap (meanOf (sh .n)) (part-all ys (sh .n) (h .targets))
 
   module _ (gamma : Float) {w₁ w₂ w₃ : List Float} {mu r : Float} where
     pub plain : w₁ ≡ put w₀ 0 (part s (l .w) (sh .p)) → mu ≡ meanOf (sh .n) (part ys 0 (sh .n)) → w₂ ≡ rescaledOf false gamma (sh .p) w₁ w₁
@@ -66,9 +65,9 @@ module _ (sh : Sizes) (l : Places) {s ys w₀ : List Float} (h : Ends sh l s ys 
     pub normal : w₁ ≡ put w₀ 0 (part s (l .w) (sh .p)) → mu ≡ meanOf (sh .n) (part ys 0 (sh .n)) → w₂ ≡ rescaledOf true gamma (sh .p) w₁ (part s (l .scale) (sh .p))
         → length w₂ ≡ sh .p → b ≡ productOf (sh .p) (part w₂ 0 (sh .p)) (part s (l .centre) (sh .p)) → w₃ ≡ w₂ → r ≡ mu ⊖ b
         → (w₃ ≡ weightsOf sh true gamma (vars sh s)) × (r ≡ interceptOf sh true gamma ys (vars sh s))
-    unfolding interceptOf part
+    unfolding interceptOf
     normal q₁ qm q₂ k qb q₃ qr =
         let d = h .room .laid .at-centre in
         let ew = rescaled gamma q₁ q₂ in
-        let eb = rw d at (qb ∙ ap (λ (w : List Float). productOf (sh .p) w (part s (l .centre) (sh .p))) (take-all (sh .p) w₂ (omega arith) ∙ ew)) in
+        let eb = rw d at (qb ∙ ap (λ (w : List Float). productOf (sh .p) w (part s (l .centre) (sh .p))) (part-all w₂ (sh .p) k ∙ ew)) in
         (q₃ ∙ ew, qr ∙ ap (λ (x : Float). x ⊖ b) (averaged qm) ∙ ap (λ (x : Float). meanOf (sh .n) ys ⊖ x) eb)

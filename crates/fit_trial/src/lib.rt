@@ -11,9 +11,11 @@ use refusal::place;
 use settings::Settings;
 use stages::Counts;
 use stages::Paused;
+use stored::bits::all;
 use stored::bits::same;
+use stored::shape::area;
 ghost use mathlib.Core.Path.{_≡_};
-ghost use Prim.Native.Nat.{_*_, _≤_};
+ghost use Prim.Native.Nat.{_≤_};
 ghost use lib.ListN.{length};
 
 // All in one call; a step to a call; budgets from 0 to 16, drawn at random.
@@ -90,13 +92,6 @@ fn needed(n: usize, p: usize, lazy: bool) -> usize
         return words + 576;
     }
     words + area(k, p)
-}
-
-pub fn area(n: usize, p: usize) -> usize
-    requires { ⌜ (n ≤ 4160) × (p ≤ 64) ⌝ }
-    ensures { λ r. ⌜ (r ≡ n * p) × (r ≤ 266240) ⌝ }
-{
-    n * p
 }
 
 fn tried(
@@ -235,16 +230,4 @@ fn left(s: &[f64], words: usize) -> bool {
         return false;
     }
     all(s, words, s.len(), bits_of(1e300))
-}
-
-// Have all from a up to b these bits?
-fn all(s: &[f64], a: usize, b: usize, bits: u64) -> bool
-    requires { ⌜ b ≤ length (now s) ⌝ }
-{
-    for i in a..b {
-        if bits_of(s[i]) != bits {
-            return false;
-        }
-    }
-    true
 }

@@ -16,9 +16,10 @@ use Rattle.layout.specs.Slots.{Slot, Store, Has, Laid, vars, vars-of, then, siz
 use Rattle.layout.specs.Slots.{Slot.D1, Slot.D2, Slot.PRB, Slot.PRS, Slot.DXU, Slot.R, Slot.RR, Slot.ZS, Slot.ZZ, Slot.PS, Slot.PP, Slot.ATAX, Slot.GRAM}
 use Rattle.bg_solver.specs.declared.shared.Seven.{Seven}
 use Rattle.bg_solver.specs.Shared.{aimed, directMem, advanceMem}
+use Rattle.bg_solver.proofs.Lengths.{length-aimed}
 use Rattle.inner_solver.specs.Inner.{solvedOf, timesOf}
 use Rattle.inner_solver.proofs.Joins.{rows-part}
-use Rattle.inner_solver.proofs.Lengths.{length-solved, length-times, length-aimed}
+use Rattle.inner_solver.proofs.Lengths.{length-solved, length-times}
 
 -- the places of the seven
 abbrev pub seats : Places → Seven

@@ -1,14 +1,11 @@
--- How many elements the solver's products and directions have. Assumes nothing.
+-- How many elements the solver's products have. Assumes nothing.
 use mathlib.Core.Path.{_≡_}
-use mathlib.Core.Bool.{Bool, true, false}
 use mathlib.Core.List.{List}
 use Prim.Native.Nat.{ℕ, _*_}
 use native.Mathlib.Omega.{arith}
 use lib.ListN.{length, length-append}
 use lib.Ieee.{Float}
 use Rattle.arrays.specs.Part.{length-tab}
-use Rattle.arrays.specs.Vectors.{length-zip}
-use Rattle.bg_solver.specs.Shared.{aimed}
 use Rattle.inner_solver.specs.Inner.{halves, solvedOf, timesOf}
 
 length-halves : (p : ℕ) (f g : ℕ → Float) → length (halves p f g) ≡ 2 * p
@@ -21,7 +18,3 @@ length-solved p d1 d2 prb prs b = length-halves p _ _
 pub length-times : (p : ℕ) (gram d1 d2 x : List Float) → length (timesOf p gram d1 d2 x) ≡ 2 * p
 unfolding timesOf
 length-times p gram d1 d2 x = length-halves p _ _
-
-pub length-aimed : (first : Bool) (bk : Float) (n : ℕ) (pp z : List Float) → length z ≡ n → length (aimed first bk n pp z) ≡ n
-length-aimed true bk n pp z h = h
-length-aimed false bk n pp z h = length-zip _ n pp z

@@ -5,20 +5,18 @@ use mathlib.Core.List.{List, _++_}
 use Prim.Native.Nat.{ℕ, _+_, _*_, _≤_, _<_}
 use lib.ListN.{length}
 use lib.Ieee.{Float, neg}
-use Rattle.numbers.specs.Ops.{_⊕_, _⊖_, _⊗_, _⊘_, f64}
+use Rattle.numbers.specs.Ops.{_⊕_, _⊖_, _⊗_, _⊘_}
+use Rattle.numbers.specs.Constants.{two}
 use Rattle.arrays.specs.Part.{tab}
 use Rattle.arrays.specs.Sums.{_!_, normTwoOf}
 use Rattle.matrices.specs.Products.{rowsOf}
 use Rattle.layout.specs.declared.Sizes.{Sizes}
 use Rattle.layout.specs.declared.Places.{Places}
-use Rattle.layout.specs.Slots.{Slot, Store, Has, _⟨_≔_⟩}
+use Rattle.layout.specs.Slots.{Store, Has, _⟨_≔_⟩}
 use Rattle.layout.specs.Slots.{Slot.D1, Slot.D2, Slot.PRB, Slot.PRS, Slot.DXU, Slot.GRAD, Slot.R, Slot.RR, Slot.ZS, Slot.ZZ, Slot.PS, Slot.PP, Slot.ATAX, Slot.GRAM}
 use Rattle.bg_solver.specs.declared.shared.Turned.{Turned}
 use Rattle.bg_solver.specs.Shared.{turnBy}
 use Rattle.bg_solver.specs.Solver.{System, Work, Round, begun, turned, errorOf}
-
-abbrev pub two : Float
-two = f64 0x4000_0000_0000_0000
 
 -- 2p elements, of which the first p are f's and the others g's
 abbrev pub halves : ℕ → (ℕ → Float) → (ℕ → Float) → List Float

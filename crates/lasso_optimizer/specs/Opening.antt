@@ -6,6 +6,7 @@ use lib.Dec.{eqb}
 use lib.Ieee.{Float, neg, lt, le}
 use Rattle.numbers.specs.Ops.{_⊕_, _⊖_, _⊗_, _⊘_, f64}
 use Rattle.numbers.specs.Order.{maximumOf}
+use Rattle.numbers.specs.Constants.{two}
 use Rattle.arrays.specs.Sums.{dotOf, norm1Of, norm2Of, normInfOf, plus0}
 use Rattle.arrays.specs.Vectors.{mapOf, zipOf}
 use Rattle.settings.specs.declared.Terms.{Terms}
@@ -14,7 +15,7 @@ use Rattle.layout.specs.Slots.{Store, _⟨_≔_⟩}
 use Rattle.layout.specs.Slots.{Slot.W, Slot.U, Slot.Q1, Slot.Q2, Slot.D1, Slot.D2, Slot.PRB, Slot.PRS, Slot.GRAD, Slot.XNU, Slot.Y, Slot.Z, Slot.NU}
 use Rattle.inner_solver.specs.Inner.{beginStore, bnrmOf}
 use Rattle.design.specs.Mode.{matvecOf, transposedOf}
-use Rattle.newton.specs.Newton.{two, nextT, overSum, overDifference, sumOfSquares, differenceOfSquares, g1Of, gradOf, prbAt, prsOf, tolerance}
+use Rattle.newton.specs.Newton.{nextT, overSum, overDifference, sumOfSquares, differenceOfSquares, g1Of, gradOf, prbAt, prsOf, tolerance}
 use Rattle.pause.specs.Parts.{Opened, ready, done, tiny}
 use Rattle.lasso_optimizer.specs.declared.Scalars.{Scalars}
 use Rattle.lasso_optimizer.specs.Data.{Data, held, opened}

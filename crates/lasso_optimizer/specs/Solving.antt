@@ -3,13 +3,13 @@ use mathlib.Core.Bool.{Bool, _||_, cond}
 use Prim.Native.Nat.{ℕ, _*_}
 use lib.Dec.{eqb}
 use lib.Ieee.{Float, lt, le}
+use Rattle.numbers.specs.Constants.{one}
 use Rattle.arrays.specs.Sums.{dotOf, sumOf}
 use Rattle.settings.specs.declared.Terms.{Terms}
 use Rattle.layout.specs.declared.Sizes.{Sizes}
 use Rattle.layout.specs.Slots.{Store}
 use Rattle.layout.specs.Slots.{Slot.U, Slot.F, Slot.DXU, Slot.GRAD, Slot.Z}
 use Rattle.inner_solver.specs.Inner.{roundOf, turnStore, turnError}
-use Rattle.newton.specs.Newton.{one}
 use Rattle.line_search.specs.Search.{sumlognegOf, phiOf}
 use Rattle.pause.specs.Parts.{Turned, more, stop}
 use Rattle.lasso_optimizer.specs.declared.Scalars.{Scalars}

@@ -4,6 +4,7 @@ use mathlib.Core.List.{List}
 use Prim.Native.Nat.{_*_}
 use lib.Ieee.{Float, lt}
 use Rattle.numbers.specs.Ops.{_⊕_, _⊖_, _⊗_}
+use Rattle.numbers.specs.Constants.{half}
 use Rattle.arrays.specs.Part.{part}
 use Rattle.arrays.specs.Sums.{dotOf, sumOf, plus0}
 use Rattle.arrays.specs.Vectors.{zipOf}
@@ -12,7 +13,6 @@ use Rattle.layout.specs.declared.Sizes.{Sizes}
 use Rattle.layout.specs.Slots.{Store, _⟨_≔_⟩}
 use Rattle.layout.specs.Slots.{Slot.W, Slot.U, Slot.NEWW, Slot.NEWU, Slot.F, Slot.NEWF, Slot.DXU, Slot.Y, Slot.NEWZ}
 use Rattle.design.specs.Mode.{matvecOf}
-use Rattle.newton.specs.Newton.{half}
 use Rattle.line_search.specs.Search.{facesOf, largestOf, sumlognegOf, phiOf, decreases}
 use Rattle.pause.specs.Parts.{Tried, accept, halve}
 use Rattle.lasso_optimizer.specs.declared.Scalars.{Scalars}

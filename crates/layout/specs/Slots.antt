@@ -11,7 +11,7 @@ use Rattle.arrays.specs.Vectors.{fillOf}
 use Rattle.layout.specs.declared.Sizes.{Sizes}
 use Rattle.layout.specs.declared.Places.{Places}
 use Rattle.layout.specs.Store.{Table, Tiled, tiled-join, total, upd, upd-same, upd-other, cut, need, save, sized-upd}
-use Rattle.layout.specs.Store.{Holds, held, wrote, cut-holds, rest-holds, length-holds, cleared}
+use Rattle.layout.specs.Store.{Holds, held, wrote, cut-holds, rest-holds, cleared}
 
 -- docs/LAYOUT.md says what each holds at each stage. ZS is the solver's z, and Z the residuals.
 pub data Slot : Type 0 where
@@ -301,9 +301,6 @@ rest-of sh h = rest-holds h
 pub flat-of : (sh : Sizes) {e : List Float} {v : Store} {m : List Float} → Has sh e v m → m ≡ flatly sh v e
 unfolding flatly
 flat-of sh h = h .is
-
-pub long-of : (sh : Sizes) {e : List Float} {v : Store} {m : List Float} → Has sh e v m → words sh ≤ length m
-long-of sh {m} h = omega (arith, length-holds h, need-is sh)
 
 -- the needed words overwritten by x
 abbrev pub all-of : Sizes → Float → Store

@@ -1,4 +1,3 @@
-pub mod Mats
 pub mod Likes
 pub mod Carried
 pub mod Nest

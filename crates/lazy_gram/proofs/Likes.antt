@@ -11,8 +11,9 @@ use lib.Seq.{ext-getD}
 use lib.Ieee.{Float, nan}
 use Rattle.arrays.specs.Part.{put, tab, length-put, length-tab, part-put-same, getD-part, getD-put-above, getD-put-below}
 use Rattle.arrays.specs.Sums.{_!_}
-use Rattle.lazy_gram.specs.Panels.{mat, Like}
-use Rattle.lazy_gram.proofs.Mats.{length-mat, mat-below, mat-beyond}
+use Rattle.gram_panels.specs.Panels.{mat}
+use Rattle.gram_panels.proofs.Mats.{length-mat, mat-below, mat-beyond}
+use Rattle.lazy_gram.specs.Nest.{Like}
 
 getD-put-in : (s : List Float) (q : ℕ) (xs : List Float) (i : ℕ) → q + length xs ≤ length s → i < length xs → put s q xs ! (q + i) ≡ xs ! i
 getD-put-in s q xs i l h =

@@ -14,7 +14,7 @@ use Rattle.layout.specs.declared.Sizes.{Sizes}
 use Rattle.layout.specs.Slots.{Slot, Store, _⟨_≔_⟩, num, seen-same, seen-other}
 use Rattle.layout.specs.Slots.{Slot.CENTRE, Slot.SCALE, Slot.LEFT, Slot.RIGHT, Slot.GRAM}
 use Rattle.lazy_gram.specs.Gram.{cellAt, entryOf, augmented, lazyGramOf, lazyGramStore}
-use Rattle.lazy_gram.specs.Panels.{entry}
+use Rattle.lazy_gram.specs.Nest.{entry}
 use Rattle.lazy_gram.proofs.Carried.{entry-sym}
 use Rattle.lazy_gram.proofs.Whole.{raised-sym}
 

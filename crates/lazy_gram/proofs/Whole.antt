@@ -18,9 +18,10 @@ use Rattle.settings.specs.declared.Terms.{Terms}
 use Rattle.layout.specs.declared.Sizes.{Sizes}
 use Rattle.layout.specs.declared.Places.{Places}
 use Rattle.layout.specs.Slots.{Slot.CENTRE, Slot.SCALE, Slot.LEFT, Slot.RIGHT, Slot.GRAM, off, words, Has, vars, rest, start, then}
+use Rattle.gram_panels.specs.Panels.{mat, same, cell}
+use Rattle.gram_panels.proofs.Mats.{row-le, put-tab-tab, length-mat, mat-below, mat-in, mat-ext, mat-mat, mat-put}
 use Rattle.lazy_gram.specs.Gram.{cellAt, entryOf, lazyGramOf, lazyGramStore, Lent}
-use Rattle.lazy_gram.specs.Panels.{mat, Like, same, low, cell, entry, Rows, Clear, nones, raised, raisedAt, right-of, turned, gramAt}
-use Rattle.lazy_gram.proofs.Mats.{row-le, put-tab-tab, length-mat, mat-below, mat-in, mat-ext, mat-mat, mat-put}
+use Rattle.lazy_gram.specs.Nest.{Like, low, entry, Rows, Clear, nones, raised, raisedAt, right-of, turned, gramAt}
 use Rattle.lazy_gram.proofs.Likes.{like-mat, like-clear}
 use Rattle.lazy_gram.proofs.Carried.{entry-like, entry-sym}
 

@@ -12,7 +12,7 @@ use Rattle.matrices.specs.Grid.{grid}
 use Rattle.settings.specs.declared.Terms.{Terms}
 use Rattle.layout.specs.declared.Sizes.{Sizes}
 use Rattle.layout.specs.declared.Places.{Places}
-use Rattle.layout.specs.Slots.{Slot, Store, Room, _⟨_≔_⟩}
+use Rattle.layout.specs.Slots.{Store, Room, _⟨_≔_⟩}
 use Rattle.layout.specs.Slots.{Slot.CENTRE, Slot.SCALE, Slot.LEFT, Slot.RIGHT, Slot.GRAM}
 
 -- row i, column j of the design's first n rows before gamma: in the Gram always by division

@@ -1,2 +1,2 @@
 pub mod Gram
-pub mod Panels
+pub mod Nest

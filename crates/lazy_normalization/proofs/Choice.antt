@@ -11,8 +11,9 @@ use lib.Ieee.Bits.{is-true}
 use lib.Ieee.Fits.{up-pos, and-l}
 use lib.Ieee.Positive.{above, above-of-le}
 use Rattle.numbers.specs.Ops.{_⊖_, _⊗_, _⊘_, f64, magnitudeOf}
+use Rattle.numbers.specs.Constants.{one}
 use Rattle.arrays.specs.Sums.{plus0}
-use Rattle.lazy_normalization.specs.Lazy.{one, isNormal, reciprocalOf, normalised}
+use Rattle.lazy_normalization.specs.Lazy.{isNormal, reciprocalOf, normalised}
 
 -- ---- from the code's tests
 

@@ -17,8 +17,8 @@ use lib.Ieee.Fits.{down-pos, and-l, and-r, round-fits}
 use lib.Ieee.Scale.{round-same}
 use Rattle.numbers.specs.Ops.{_⊖_, _⊗_}
 use Rattle.numbers.proofs.Values.{same-value}
+use Rattle.numbers.specs.Constants.{one}
 use Rattle.arrays.specs.Sums.{plus0}
-use Rattle.lazy_normalization.specs.Lazy.{one}
 
 -- in units of 2 ^ -1074 the value is m * 2 ^ j
 exact : (s : Bool) (m : ℕ) (e : ℤ) (j : ℕ) → T (fits binary64 (fin s m e)) → m < 2 ^ 53 → m * up e < 2 ^ 1024 * down e

@@ -3,8 +3,9 @@ use mathlib.Core.Path.{_≡_, refl, ap, _∙_}
 use lib.Dec.{T}
 use lib.Ieee.{Float, binary64, fits, div, le, ofBits}
 use Rattle.numbers.specs.Ops.{_⊖_, _⊗_, _⊘_, magnitudeOf}
+use Rattle.numbers.specs.Constants.{one}
 use Rattle.arrays.specs.Sums.{plus0}
-use Rattle.lazy_normalization.specs.Lazy.{one, isNormal, reciprocalOf, normalised}
+use Rattle.lazy_normalization.specs.Lazy.{isNormal, reciprocalOf, normalised}
 use Rattle.lazy_normalization.proofs.Choice.{times-reciprocal}
 use Rattle.lazy_normalization.proofs.Neutral.{less-zero, times-one}
 

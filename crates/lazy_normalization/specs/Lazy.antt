@@ -6,16 +6,14 @@ use Prim.Native.Nat.{ℕ, _+_, _*_, _≤_, _<_}
 use lib.ListN.{length}
 use lib.Ieee.{Float, eq, le, lt}
 use Rattle.numbers.specs.Ops.{_⊕_, _⊖_, _⊗_, _⊘_, f64, magnitudeOf}
+use Rattle.numbers.specs.Constants.{one}
 use Rattle.arrays.specs.Part.{tab}
 use Rattle.arrays.specs.Sums.{_!_, products, plus0}
 use Rattle.layout.specs.declared.Sizes.{Sizes}
 use Rattle.layout.specs.declared.Places.{Places}
-use Rattle.layout.specs.Slots.{Slot, Store, _⟨_≔_⟩}
+use Rattle.layout.specs.Slots.{Store, _⟨_≔_⟩}
 use Rattle.layout.specs.Slots.{Slot.SCALE, Slot.RECIP}
 use Rattle.settings.specs.declared.Terms.{Terms}
-
-abbrev pub one : Float
-one = f64 0x3ff0_0000_0000_0000
 
 -- is_normal: finite, and not below 2 ^ -1022 in magnitude
 unfoldable pub isNormal : Float → Bool

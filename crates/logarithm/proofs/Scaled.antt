@@ -13,10 +13,11 @@ use lib.Ieee.Positive.{mul-at, positive-of-value}
 use borrow.Author.Tests.{lt-leb, ltb-true, ltb-false, ne-eqb}
 use Rattle.numbers.specs.Ops.{_⊖_, _⊗_, f64}
 use Rattle.numbers.specs.Units.{count, IsNormal}
-use Rattle.logarithm.specs.Log.{one, two54, closeOf, farOf, normalLn, lnOf}
+use Rattle.logarithm.specs.Log.{two54, closeOf, farOf, normalLn, lnOf}
 use Rattle.numbers.proofs.Counts.{count-low, count-at}
 use Rattle.numbers.proofs.Normals.{high-normal, normal-unique}
 use Rattle.numbers.proofs.Values.{value-of-bits, bits-back, same-value}
+use Rattle.numbers.specs.Constants.{one}
 use Rattle.logarithm.proofs.Whole.{minus-same}
 
 -- ---- `normalLn` by the digits below the leading one, and by k

@@ -1,10 +1,11 @@
 -- The natural logarithm, step for step that of fdlibm's e_log.c. Definitions only.
 use Prim.Native.Nat.{ℕ, _+_, _-_, _*_, _/_, _%_, _^_}
-use mathlib.Core.Bool.{Bool, true, false, cond, _&&_}
+use mathlib.Core.Bool.{Bool, false, cond, _&&_}
 use lib.Dec.{leb, ltb, eqb}
 use lib.IntN.{ℤ, pos, negsuc}
-use lib.Ieee.{Float, binary64, toBits, ofBits, ofInt, minus, neg, eq, add, sub, mul, div}
+use lib.Ieee.{Float, binary64, toBits, ofInt, minus, neg, eq}
 use Rattle.numbers.specs.Ops.{_⊕_, _⊖_, _⊗_, _⊘_, f64}
+use Rattle.numbers.specs.Constants.{half, one, two}
 
 -- ---- the file's constants
 abbrev pub ln2hi : Float
@@ -37,18 +38,9 @@ lg7 = f64 0x3fc2f112df3e5244
 abbrev pub zero : Float
 zero = f64 0
 
-abbrev pub half : Float
-half = f64 0x3fe0000000000000
-
 -- 0.33333333333333333
 abbrev pub third : Float
 third = f64 0x3fd5555555555555
-
-abbrev pub one : Float
-one = f64 0x3ff0000000000000
-
-abbrev pub two : Float
-two = f64 0x4000000000000000
 
 abbrev pub two54 : Float
 two54 = f64 0x4350000000000000

@@ -1,11 +1,13 @@
 // One call of the lone solver on values whose bits are given, with a marked scratch: what it answers, and what becomes of the memory.
-use bg_solver::lone::Answer;
-use bg_solver::lone::solve;
+use lone_solver::Answer;
+use lone_solver::solve;
 use numbers::bits::bits_of;
 use numbers::bits::of_bits;
 use stored::bits::load;
 use stored::bits::same;
 use stored::marks::mark;
+use stored::room::number_room;
+use stored::room::word_room;
 ghost use mathlib.Core.Path.{_≡_};
 ghost use Prim.Native.Nat.{_+_, _≤_};
 ghost use lib.ListN.{length};
@@ -38,17 +40,11 @@ pub struct Seen {
 pub fn trial(c: Case, values: &[u64], wanted: &[u64]) -> Seen
     requires { ⌜ Given c (now values) (now wanted) ⌝ }
 {
-    let mut starts = space();
-    let mut scratch = space();
+    let mut starts = number_room();
+    let mut scratch = number_room();
     let n = c.start;
     let room = c.scratch;
     observed(c, values, wanted, &mut starts[0..n], &mut scratch[0..room])
-}
-
-fn space() -> [f64; 4400]
-    ensures { λ r. ⌜ 4400 ≡ length r ⌝ }
-{
-    [0.0; 4400]
 }
 
 fn observed(c: Case, values: &[u64], wanted: &[u64], x: &mut [f64], s: &mut [f64]) -> Seen
@@ -64,7 +60,7 @@ fn observed(c: Case, values: &[u64], wanted: &[u64], x: &mut [f64], s: &mut [f64
 fn set_marks(s: &mut [f64])
     requires { ⌜ length (now s) ≤ 4400 ⌝ }
 {
-    let mut space = words();
+    let mut space = word_room();
     let n = s.len();
     let bits = &mut space[0..n];
     mark(bits, 0);
@@ -74,23 +70,17 @@ fn set_marks(s: &mut [f64])
 fn has_marks(s: &[f64], zeros: usize) -> bool
     requires { ⌜ length (now s) ≤ 4400 ⌝ }
 {
-    let mut space = words();
+    let mut space = word_room();
     let n = s.len();
     let bits = &mut space[0..n];
     mark(bits, zeros);
     same(s, bits)
 }
 
-pub fn words() -> [u64; 4400]
-    ensures { λ r. ⌜ 4400 ≡ length r ⌝ }
-{
-    [0; 4400]
-}
-
 fn answer(c: Case, values: &[u64], x: &mut [f64], s: &mut [f64]) -> Answer
     requires { ⌜ (length (now values) ≡ c .matrix + c .right) × (c .matrix ≤ 4400) × (c .right ≤ 4400) ⌝ }
 {
-    let mut matrix = space();
+    let mut matrix = number_room();
     let m = c.matrix;
     let a = &mut matrix[0..m];
     load(&values[0..m], a);
@@ -100,7 +90,7 @@ fn answer(c: Case, values: &[u64], x: &mut [f64], s: &mut [f64]) -> Answer
 fn answer_of(c: Case, a: &[f64], right: &[u64], x: &mut [f64], s: &mut [f64]) -> Answer
     requires { ⌜ length (now right) ≤ 4400 ⌝ }
 {
-    let mut rights = space();
+    let mut rights = number_room();
     let n = right.len();
     let b = &mut rights[0..n];
     load(right, b);

@@ -1,56 +1,67 @@
-// Column statistics of a lent matrix.
+// Column statistics of a lent matrix, walked once by its rows. Each column's sums run in row order from +0.
 use arrays::sums::float_of;
+use arrays::vectors::fill;
 use numbers::square_root::root;
 ghost use mathlib.Core.Path.{_≡_};
-ghost use Prim.Native.Nat.{_*_, _^_, _≤_, _<_};
+ghost use Prim.Native.Nat.{_+_, _≤_};
 ghost use lib.ListN.{length};
-ghost use Rattle.arrays.specs.Sums.{sumTo, products, plus0};
-ghost use Rattle.matrices.specs.Stats.{column, columnMeanOf, deviationOf};
+ghost use lib.Ieee.{Float};
+ghost use Rattle.numbers.specs.Ops.{_⊕_, _⊖_, _⊗_, _⊘_};
+ghost use Rattle.numbers.specs.Root.{rootOf};
+ghost use Rattle.arrays.specs.Part.{part, put, tab};
+ghost use Rattle.arrays.specs.Vectors.{mapOf, zipOf, Two};
+ghost use Rattle.matrices.specs.Stats.{columnMeanOf, deviationOf, Moments};
 
-pub fn column_sum(m: &[f64], rows: usize, cols: usize, j: usize) -> f64
-    requires { ⌜ (rows * cols ≤ length (now m)) × (j < cols) ⌝ }
-    ensures { λ r. ⌜ r ≡ sumTo plus0 (column (now (m .entry)) cols j) rows ⌝ }
+// The columns' means and deviations, in place of their sums and sums of squares.
+pub fn moments(m: &[f64], rows: usize, cols: usize, s: &mut [f64], means: usize, deviations: usize)
+    requires { ⌜ Moments (now m) rows cols (now s) means deviations ⌝ }
+    ensures { λ _. ⌜ now (s .exit) ≡ put (put (now (s .entry)) means (tab (columnMeanOf (now (m .entry)) rows cols) cols)) deviations
+        (tab (deviationOf (now (m .entry)) rows cols) cols) ⌝ }
 {
-    let mut t = 0.0;
-    let mut at = j;
+    fill(s, means, cols, 0.0);
+    fill(s, deviations, cols, 0.0);
+    let mut at = 0usize;
     let mut i = 0usize;
     while i < rows {
-        t = t + m[at];
+        add_row(m, at, s, means, deviations, cols);
         at += cols;
         i += 1;
     }
-    t
+    let d = float_of(rows);
+    finish_means(s, means, d, cols);
+    finish_deviations(s, deviations, means, d, cols);
 }
 
-pub fn column_squares(m: &[f64], rows: usize, cols: usize, j: usize) -> f64
-    requires { ⌜ (rows * cols ≤ length (now m)) × (j < cols) ⌝ }
-    ensures { λ r. ⌜ r ≡ products plus0 (column (now (m .entry)) cols j) (column (now (m .entry)) cols j) rows ⌝ }
+// The row that starts at `at`, added to the sums, and its squares to the sums of squares, in one loop.
+fn add_row(m: &[f64], at: usize, s: &mut [f64], sums: usize, squares: usize, cols: usize)
+    requires { ⌜ (at + cols ≤ length (now m)) × ((sums + cols ≤ squares) × (squares + cols ≤ length (now s))) ⌝ }
+    ensures { λ _. ⌜ now (s .exit) ≡ put (put (now (s .entry)) sums (zipOf (λ (v x : Float). v ⊕ x) cols (part (now (s .entry)) sums cols) (part (now (m .entry)) at cols)))
+        squares (zipOf (λ (v x : Float). v ⊕ x ⊗ x) cols (part (now (s .entry)) squares cols) (part (now (m .entry)) at cols)) ⌝ }
 {
-    let mut t = 0.0;
-    let mut at = j;
-    let mut i = 0usize;
-    while i < rows {
-        let x = m[at];
-        t = t + x * x;
-        at += cols;
-        i += 1;
+    for j in 0..cols {
+        let x = m[at + j];
+        s[sums + j] = s[sums + j] + x;
+        s[squares + j] = s[squares + j] + x * x;
     }
-    t
 }
 
-pub fn column_mean(m: &[f64], rows: usize, cols: usize, j: usize) -> f64
-    requires { ⌜ (rows * cols ≤ length (now m)) × (j < cols) × (rows < 2 ^ 32) ⌝ }
-    ensures { λ r. ⌜ r ≡ columnMeanOf (now (m .entry)) rows cols j ⌝ }
+fn finish_means(s: &mut [f64], out: usize, d: f64, cols: usize)
+    requires { ⌜ out + cols ≤ length (now s) ⌝ }
+    ensures { λ _. ⌜ now (s .exit) ≡ put (now (s .entry)) out (mapOf (λ (v : Float). v ⊘ d) cols (part (now (s .entry)) out cols)) ⌝ }
 {
-    column_sum(m, rows, cols, j) / float_of(rows)
+    for j in 0..cols {
+        s[out + j] = s[out + j] / d;
+    }
 }
 
 // The variance over raw sums, then its root: a NaN where the computed variance is negative.
-pub fn deviation(m: &[f64], rows: usize, cols: usize, j: usize) -> f64
-    requires { ⌜ (rows * cols ≤ length (now m)) × (j < cols) × (rows < 2 ^ 32) ⌝ }
-    ensures { λ r. ⌜ r ≡ deviationOf (now (m .entry)) rows cols j ⌝ }
+fn finish_deviations(s: &mut [f64], out: usize, means: usize, d: f64, cols: usize)
+    requires { ⌜ Two (now s) out out means cols ⌝ }
+    ensures { λ _. ⌜ now (s .exit) ≡ put (now (s .entry)) out (zipOf (λ (v mu : Float). rootOf (v ⊘ d ⊖ mu ⊗ mu)) cols (part (now (s .entry)) out cols)
+        (part (now (s .entry)) means cols)) ⌝ }
 {
-    let mu = column_mean(m, rows, cols, j);
-    let d = float_of(rows);
-    root(column_squares(m, rows, cols, j) / d - mu * mu)
+    for j in 0..cols {
+        let mu = s[means + j];
+        s[out + j] = root(s[out + j] / d - mu * mu);
+    }
 }

@@ -6,20 +6,12 @@ use lib.ListN.{length}
 use lib.Ieee.{Float, neg, le}
 use Rattle.numbers.specs.Ops.{_⊕_, _⊖_, _⊗_, _⊘_, f64}
 use Rattle.numbers.specs.Order.{maximumOf, minimumOf}
+use Rattle.numbers.specs.Constants.{half, one, two}
 use Rattle.arrays.specs.Sums.{_!_, whole}
 use Rattle.arrays.specs.Part.{tab}
 use Rattle.arrays.specs.Vectors.{mapOf, zipOf, Clear}
 
 -- the Rust's parameters
-abbrev pub half : Float
-half = f64 0x3fe0_0000_0000_0000
-
-abbrev pub one : Float
-one = f64 0x3ff0_0000_0000_0000
-
-abbrev pub two : Float
-two = f64 0x4000_0000_0000_0000
-
 -- 0.1
 abbrev pub minPcgtol : Float
 minPcgtol = f64 0x3fb9_9999_9999_999a

@@ -1,4 +1,5 @@
 pub mod Ops
+pub mod Constants
 pub mod Kinds
 pub mod Order
 pub mod Powers

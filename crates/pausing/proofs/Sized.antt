@@ -16,8 +16,9 @@ use Rattle.layout.specs.Slots.{Slot, Store, size, upd-sized}
 use Rattle.layout.specs.Slots.{Slot.W, Slot.U, Slot.NEWW, Slot.NEWU, Slot.F, Slot.NEWF, Slot.Q1, Slot.Q2, Slot.D1, Slot.D2, Slot.PRB, Slot.PRS, Slot.DXU, Slot.GRAD}
 use Rattle.layout.specs.Slots.{Slot.R, Slot.RR, Slot.ZS, Slot.ZZ, Slot.PS, Slot.PP, Slot.XNU, Slot.ATAX, Slot.Z, Slot.NU, Slot.NEWZ}
 use Rattle.bg_solver.specs.Solver.{Work, begun, turned}
+use Rattle.bg_solver.proofs.Lengths.{length-aimed}
 use Rattle.inner_solver.specs.Inner.{systemOf, workOf, withWork, beginStore, roundOf, turnStore}
-use Rattle.inner_solver.proofs.Lengths.{length-solved, length-times, length-aimed}
+use Rattle.inner_solver.proofs.Lengths.{length-solved, length-times}
 use Rattle.design.proofs.Lengths.{length-matvec-of, length-transposed}
 use Rattle.newton.specs.Newton.{nextT}
 use Rattle.newton.proofs.Lengths.{length-g1, length-grad, length-prs}

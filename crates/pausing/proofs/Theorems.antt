@@ -5,13 +5,14 @@ use Prim.Native.Nat.{ℕ, _*_, _<_, _≤_}
 use lib.Dec.{T, lit≤}
 use lib.Ieee.{Float}
 use Rattle.numbers.specs.Kinds.{unsigned}
+use Rattle.numbers.specs.Constants.{one}
 use Rattle.arrays.specs.Sums.{plus0}
 use Rattle.arrays.specs.Vectors.{fillOf}
 use Rattle.settings.specs.declared.Terms.{Terms}
 use Rattle.layout.specs.declared.Sizes.{Sizes}
 use Rattle.layout.specs.Slots.{Store}
 use Rattle.layout.specs.Slots.{Slot.W, Slot.U}
-use Rattle.newton.specs.Newton.{one, startT}
+use Rattle.newton.specs.Newton.{startT}
 use Rattle.bound.specs.Kept.{Kept as KeptAt}
 use Rattle.bound.proofs.Kept.{kept-start}
 use Rattle.pause.specs.Progress.{over, Always, calls, total}

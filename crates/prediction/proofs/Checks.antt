@@ -12,6 +12,7 @@ use borrow.Author.Tests.{leb-true, eqb-true, le-leb, eq-eqb}
 use Rattle.arrays.specs.Scan.{firstInfinite}
 use Rattle.arrays.specs.declared.scan.Found.{Found}
 use Rattle.arrays.specs.declared.scan.Found.the-variants.{Clean, At}
+use Rattle.arrays.proofs.Scans.{scan-bad, scan-good}
 use Rattle.refusal.specs.declared.Refusal.the-variants.{Size, Length, NotFinite}
 use Rattle.refusal.specs.declared.Checked.{Checked}
 use Rattle.refusal.specs.declared.Checked.the-variants.{Fine, Bad}
@@ -84,11 +85,7 @@ module _ (n p : ℕ) (x w : List Float) (b : Float) (out : ℕ) where
 
 lone-good : (i : ℕ) (b : Float) → finite b ≡ true → firstInfinite i (b ∷ []) ≡ Clean
 unfolding firstInfinite
-lone-good i b h = rw (h, firstInfinite)
-
-lone-bad : (i : ℕ) (b : Float) → finite b ≡ false → firstInfinite i (b ∷ []) ≡ At i
-unfolding firstInfinite
-lone-bad i b h = rw (h, firstInfinite)
+lone-good i b h = scan-good i b [] h
 
 module _ (x w : List Float) (b : Float) where
   values-by : (f g : Found) → f ≡ firstInfinite 0 x → g ≡ firstInfinite 0 w
@@ -105,7 +102,7 @@ module _ (x w : List Float) (b : Float) where
     in-weights k from t l = rw (values-by f g ef eg, cf, t, l)
 
     pub in-intercept : (from : ℕ) → g ≡ Clean → finite b ≡ false → length x + length w ≡ from → Bad (NotFinite from) ≡ valuesOf x w b
-    in-intercept from t h l = rw (values-by f g ef eg, cf, t, lone-bad (length x + length w) b h, l)
+    in-intercept from t h l = rw (values-by f g ef eg, cf, t, scan-bad (length x + length w) b [] h, l)
 
     pub all-finite : g ≡ Clean → finite b ≡ true → Fine ≡ valuesOf x w b
     all-finite t h = rw (values-by f g ef eg, cf, t, lone-good (length x + length w) b h)

@@ -4,6 +4,7 @@ use mathlib.Core.Path.{_≡_, refl}
 use mathlib.Core.Bool.{Bool, true, false, cond}
 use mathlib.Core.List.{List}
 use lib.Ieee.{Float}
+use Rattle.numbers.specs.Constants.{one}
 use Rattle.arrays.specs.Sums.{plus0}
 use Rattle.arrays.specs.Vectors.{fillOf}
 use Rattle.settings.specs.declared.Terms.{Terms}
@@ -16,7 +17,6 @@ use Rattle.lazy_gram.specs.Gram.{lazyGramStore}
 use Rattle.design.specs.Statistics.{statisticsStore, targetsStore}
 use Rattle.design.specs.Eager.{designStore, gramStore}
 use Rattle.design.specs.Mode.{isLazy}
-use Rattle.newton.specs.Newton.{one}
 use Rattle.beginning.specs.Start.{blankStore, preparedStore, startStore}
 
 -- weights of +0, and bounds of 1

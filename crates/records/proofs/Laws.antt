@@ -87,20 +87,16 @@ module _ (M : ℕ) (a : Paused) (passes : possibleOf M a ≡ true) where
   unfolding possibleOf spentAt Sane
   possible-sane o = sane-at (a .stage) M (a .round) (a .counts) passes o
 
-  pub possible-spent : spentAt M a ≡ true → (a .stage ≡ Opening) × (M ≤ a .round)
-  unfolding spentAt
-  possible-spent o = spent-at (a .stage) M (a .round) o
+  -- and goes on by its steps
+  pub unspent-run : (F : Parts Data) → spentAt M a ≡ false → (b : ℕ) (v : Store) → call F M b (stateOf a v) ≡ run (step F M) b (stateOf a v)
+  unfolding stateOf Sane
+  unspent-run F o b v = run-at F M (a .round) (countsOf (a .counts)) b (held (a .scalars) v) (a .stage) (possible-sane o)
 
-  module _ (F : Parts Data) where
-    -- a spent one ends as the limit, before any step
-    pub spent-over : spentAt M a ≡ true → (b : ℕ) (v : Store) → call F M b (stateOf a v) ≡ over (end limit (countsOf (a .counts)) (held (a .scalars) v))
-    unfolding stateOf call settle nextRound then
-    spent-over o b v = let p = possible-spent o in rw (p .0, le-ltb (a .round) M (p .1))
-
-    -- and one that is not goes on by its steps
-    pub unspent-run : spentAt M a ≡ false → (b : ℕ) (v : Store) → call F M b (stateOf a v) ≡ run (step F M) b (stateOf a v)
-    unfolding stateOf Sane
-    unspent-run o b v = run-at F M (a .round) (countsOf (a .counts)) b (held (a .scalars) v) (a .stage) (possible-sane o)
+-- a spent one ends as the limit, before any step
+pub spent-over : (M : ℕ) (a : Paused) (F : Parts Data) → spentAt M a ≡ true → (b : ℕ) (v : Store)
+    → call F M b (stateOf a v) ≡ over (end limit (countsOf (a .counts)) (held (a .scalars) v))
+unfolding spentAt stateOf call settle nextRound then
+spent-over M a F o b v = let p = spent-at (a .stage) M (a .round) o in rw (p .0, le-ltb (a .round) M (p .1))
 
 -- ---- the machine's own records, where its parts have the fit's limits
 

@@ -14,72 +14,60 @@ use fit_calls::resume_call;
 use fit_calls::start_call;
 use numbers::bits::of_bits;
 use settings::Settings;
-use stored::Record;
 use stored::next_record;
-use stored::next_word;
-use stored::report::damaged;
-use stored::report::no_count;
-use words::Word;
+use stored::room::word_room;
+use stored::tally::Tally;
+use stored::tally::Verdict;
+use stored::tally::begun;
+use stored::tally::damaged;
+use stored::tally::tallied;
 ghost use mathlib.Core.Path.{_≡_};
+ghost use Prim.Native.Nat.{_≤_, _<_};
 ghost use lib.ListN.{length};
 ghost use Rattle.fit_calls.specs.Case.{Held};
 
-enum Turn {
-    Called,
-    // as of a record
-    DamagedAt(u64),
-}
-
 fn main() {
-    match next_word() {
-        Word::Number(records) => calls(records),
-        Word::Bad => no_count(),
-    }
-}
-
-fn calls(records: u64) {
     table::head();
-    for i in 0..records {
-        if let Turn::DamagedAt(word) = next() {
-            damaged(i, word);
-            return;
-        }
+    let mut t = begun();
+    while t.left > 0 {
+        t = next(t);
     }
 }
 
-fn next() -> Turn {
-    let mut w = [0u64; 26];
-    match next_record(&mut w) {
-        Record::Whole(n) => {
-            if n != 26 {
-                return Turn::DamagedAt(0);
-            }
-            row(&w)
-        }
-        Record::DamagedAt(word) => Turn::DamagedAt(word),
+fn next(t: Tally) -> Tally
+    requires { ⌜ 1 ≤ t .left ⌝ }
+    ensures { λ r. ⌜ r .left < t .left ⌝ }
+{
+    let mut w = word_room();
+    let r = next_record(&mut w);
+    let n = r.words;
+    if !r.whole {
+        return damaged(t, r.bad);
     }
+    tallied(t, row(&w[0..n]))
 }
 
 // More than the buffers hold counts as damage.
-fn row(w: &[u64]) -> Turn
-    requires { ⌜ length (now w) ≡ 26 ⌝ }
-{
+fn row(w: &[u64]) -> Verdict {
+    if w.len() != 26 {
+        return Verdict::DamagedAt(0);
+    }
     let c = case_of(w);
     if c.matrix > 4200 {
-        return Turn::DamagedAt(4);
+        return Verdict::DamagedAt(4);
     }
     if c.targets > 4200 {
-        return Turn::DamagedAt(5);
+        return Verdict::DamagedAt(5);
     }
     if c.weights > 4200 {
-        return Turn::DamagedAt(6);
+        return Verdict::DamagedAt(6);
     }
     if c.scratch > 20600 {
-        return Turn::DamagedAt(7);
+        return Verdict::DamagedAt(7);
     }
     table::given(w);
     table::answered(called(w, c));
-    Turn::Called
+    Verdict::Shown
 }
 
 fn called(w: &[u64], c: Case) -> Seen

@@ -1,6 +1,9 @@
 // The table that is printed.
 use fit_calls::Seen;
 use fit_calls::Told;
+use stored::report::columns;
+use stored::report::refused;
+use stored::report::written;
 ghost use mathlib.Core.Path.{_≡_};
 ghost use Prim.Native.Nat.{_≤_};
 ghost use lib.ListN.{length};
@@ -27,56 +30,42 @@ pub fn given(w: &[u64])
     match w[0] {
         0 => {
             io::write_all(1, b"start ");
-            columns(w, 1, 5);
-            columns(w, 6, 19);
+            some(w, 1, 5);
+            some(w, 6, 19);
         }
         1 => {
             io::write_all(1, b"resume ");
-            columns(w, 1, 26);
+            some(w, 1, 26);
         }
         _ => {
             io::write_all(1, b"predict ");
-            columns(w, 1, 6);
-            columns(w, 15, 19);
+            some(w, 1, 6);
+            some(w, 15, 19);
         }
     }
 }
 
-fn columns(w: &[u64], from: usize, to: usize)
-    requires { ⌜ to ≤ length (now w) ⌝ }
+// The first three settings and the value are bits.
+fn some(w: &[u64], from: usize, to: usize)
+    requires { ⌜ (length (now w) ≡ 26) × (to ≤ 26) ⌝ }
 {
-    for i in from..to {
-        column(i, w[i]);
-    }
-}
-
-// Bits are hexadecimal.
-fn column(i: usize, n: u64) {
-    match i {
-        7 | 8 | 9 | 15 => {
-            io::print_hex(1, n, 16);
-        }
-        _ => {
-            io::print_decimal(1, n);
-        }
-    }
-    io::write_all(1, b" ");
+    columns(w, from, to, b"dddddddxxxdddddxdddddddddd");
 }
 
 pub fn answered(s: Seen) {
     let told = s.told;
     match told {
         Told::Ready => wrote(b"ready", s.written),
-        Told::Pending => nothing(b"pending", s),
+        Told::Pending => {
+            io::write_all(1, b"pending");
+            written(s.kept && s.written == 0);
+        }
         Told::Converged => wrote(b"ended converged", s.written),
         Told::Limit => wrote(b"ended limit", s.written),
         Told::Predicted => wrote(b"predicted", s.written),
         Told::Refused(number, place) => {
-            io::write_all(1, b"refused ");
-            io::print_decimal(1, number);
-            io::write_all(1, b" at ");
-            io::print_decimal(1, place as u64);
-            nothing(b"", s);
+            refused(number, place);
+            written(s.kept && s.written == 0);
         }
     }
 }
@@ -86,13 +75,4 @@ fn wrote(what: &[u8], n: usize) {
     io::write_all(1, b", written up to ");
     io::print_decimal(1, n as u64);
     io::write_all(1, b"\n");
-}
-
-fn nothing(what: &[u8], s: Seen) {
-    io::write_all(1, what);
-    if s.kept && s.written == 0 {
-        io::write_all(1, b", nothing written\n");
-    } else {
-        io::write_all(1, b", something written\n");
-    }
 }

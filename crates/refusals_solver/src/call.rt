@@ -2,8 +2,8 @@
 use lone_trial::Case;
 use lone_trial::Seen;
 use lone_trial::trial;
-use lone_trial::words;
 use stored::marks::mark;
+use stored::room::word_room;
 ghost use mathlib.Core.Path.{_≡_};
 ghost use Prim.Native.Nat.{_+_, _≤_};
 ghost use lib.ListN.{length};
@@ -12,7 +12,7 @@ pub fn call(c: Case, value: u64, place: usize, count: usize) -> Seen
     requires { ⌜ (c .matrix ≤ 4226) × (c .right ≤ 66) × (c .start ≤ 66) × (c .scratch ≤ 4400) ⌝ }
 {
     let n = c.matrix + c.right + c.start;
-    let mut space = words();
+    let mut space = word_room();
     let values = &mut space[0..n];
     mark(values, 0);
     spoil(values, value, place, count);

@@ -6,71 +6,59 @@ mod table;
 
 use call::call;
 use lone_trial::Case;
-use stored::Record;
 use stored::next_record;
-use stored::next_word;
-use stored::report::damaged;
-use stored::report::no_count;
-use words::Word;
+use stored::room::word_room;
+use stored::tally::Tally;
+use stored::tally::Verdict;
+use stored::tally::begun;
+use stored::tally::damaged;
+use stored::tally::tallied;
 ghost use mathlib.Core.Path.{_≡_};
+ghost use Prim.Native.Nat.{_≤_, _<_};
 ghost use lib.ListN.{length};
 
-enum Turn {
-    Called,
-    // as of a record
-    DamagedAt(u64),
-}
-
 fn main() {
-    match next_word() {
-        Word::Number(records) => calls(records),
-        Word::Bad => no_count(),
-    }
-}
-
-fn calls(records: u64) {
     table::head();
-    for i in 0..records {
-        if let Turn::DamagedAt(word) = next() {
-            damaged(i, word);
-            return;
-        }
+    let mut t = begun();
+    while t.left > 0 {
+        t = next(t);
     }
 }
 
-fn next() -> Turn {
-    let mut w = [0u64; 10];
-    match next_record(&mut w) {
-        Record::Whole(n) => {
-            if n != 10 {
-                return Turn::DamagedAt(0);
-            }
-            row(&w)
-        }
-        Record::DamagedAt(word) => Turn::DamagedAt(word),
+fn next(t: Tally) -> Tally
+    requires { ⌜ 1 ≤ t .left ⌝ }
+    ensures { λ r. ⌜ r .left < t .left ⌝ }
+{
+    let mut w = word_room();
+    let r = next_record(&mut w);
+    let n = r.words;
+    if !r.whole {
+        return damaged(t, r.bad);
     }
+    tallied(t, row(&w[0..n]))
 }
 
 // More than the buffers hold counts as damage.
-fn row(w: &[u64]) -> Turn
-    requires { ⌜ length (now w) ≡ 10 ⌝ }
-{
+fn row(w: &[u64]) -> Verdict {
+    if w.len() != 10 {
+        return Verdict::DamagedAt(0);
+    }
     let c = case_of(w);
     if c.matrix > 4226 {
-        return Turn::DamagedAt(2);
+        return Verdict::DamagedAt(2);
     }
     if c.right > 66 {
-        return Turn::DamagedAt(3);
+        return Verdict::DamagedAt(3);
     }
     if c.start > 66 {
-        return Turn::DamagedAt(4);
+        return Verdict::DamagedAt(4);
     }
     if c.scratch > 4400 {
-        return Turn::DamagedAt(5);
+        return Verdict::DamagedAt(5);
     }
     table::given(w);
     table::answered(call(c, w[7], w[8] as usize, w[9] as usize));
-    Turn::Called
+    Verdict::Shown
 }
 
 fn case_of(w: &[u64]) -> Case

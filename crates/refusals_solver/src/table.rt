@@ -1,5 +1,10 @@
 // The table that is printed.
 use lone_trial::Seen;
+use stored::report::columns;
+use stored::report::refused;
+use stored::report::written;
+ghost use mathlib.Core.Path.{_≡_};
+ghost use lib.ListN.{length};
 
 pub fn head() {
     io::write_all(
@@ -8,23 +13,11 @@ pub fn head() {
     );
 }
 
-pub fn given(w: &[u64]) {
-    for i in 0..w.len() {
-        column(i, w[i]);
-    }
-}
-
-// Bits are hexadecimal.
-fn column(i: usize, n: u64) {
-    match i {
-        6 | 7 => {
-            io::print_hex(1, n, 16);
-        }
-        _ => {
-            io::print_decimal(1, n);
-        }
-    }
-    io::write_all(1, b" ");
+// The tolerance and the value are bits.
+pub fn given(w: &[u64])
+    requires { ⌜ length (now w) ≡ 10 ⌝ }
+{
+    columns(w, 0, 10, b"ddddddxxdd");
 }
 
 pub fn answered(s: Seen) {
@@ -32,11 +25,8 @@ pub fn answered(s: Seen) {
         finished(s.scratch);
         return;
     }
-    io::write_all(1, b"refused ");
-    io::print_decimal(1, s.refusal);
-    io::write_all(1, b" at ");
-    io::print_decimal(1, s.place as u64);
-    refused(s.scratch && s.solution);
+    refused(s.refusal, s.place);
+    written(s.scratch && s.solution);
 }
 
 fn finished(cleared: bool) {
@@ -44,13 +34,5 @@ fn finished(cleared: bool) {
         io::write_all(1, b"solved, scratch cleared\n");
     } else {
         io::write_all(1, b"solved, scratch not cleared\n");
-    }
-}
-
-fn refused(kept: bool) {
-    if kept {
-        io::write_all(1, b", nothing written\n");
-    } else {
-        io::write_all(1, b", something written\n");
     }
 }

@@ -4,127 +4,68 @@ use design_trial::Seen;
 use design_trial::trial;
 use numbers::bits::of_bits;
 use settings::Settings;
-use stored::Record;
 use stored::bits::load;
 use stored::next_record;
-use stored::next_word;
-use stored::report::damaged;
-use stored::report::more;
-use stored::report::no_count;
 use stored::report::of;
-use words::Word;
-ghost use mathlib.Core.Path.{_≡_};
-ghost use Prim.Native.Nat.{_+_, _*_, _≤_};
+use stored::room::number_room;
+use stored::room::word_room;
+use stored::shape::area;
+use stored::shape::shape_of;
+use stored::tally::Tally;
+use stored::tally::Verdict;
+use stored::tally::begun;
+use stored::tally::damaged;
+use stored::tally::differs;
+use stored::tally::tallied;
+ghost use Prim.Native.Nat.{_≤_, _<_};
 ghost use lib.ListN.{length};
 ghost use Rattle.settings.specs.Settings.{Panels};
 ghost use Rattle.replay_designs.specs.Record.{Whole, Problem};
 
-// No input has 2^64 records, so that none of these counts wraps.
-struct Tally {
-    statistics: u64,
-    targets: u64,
-    grams: u64,
-    products: u64,
-    agree: u64,
-    differ: u64,
-}
-
-enum Turn {
-    Tallied(Tally),
-    // as of a record
-    DamagedAt(u64),
-}
-
 fn main() {
-    match next_word() {
-        Word::Number(records) => replay(records),
-        Word::Bad => no_count(),
+    let mut t = begun();
+    while t.left > 0 {
+        t = next(t);
     }
+    end(t);
 }
 
-fn replay(records: u64) {
-    let mut t = Tally {
-        statistics: 0,
-        targets: 0,
-        grams: 0,
-        products: 0,
-        agree: 0,
-        differ: 0,
-    };
-    for i in 0..records {
-        match next(t, i) {
-            Turn::Tallied(u) => t = u,
-            Turn::DamagedAt(word) => {
-                damaged(i, word);
-                return;
-            }
-        }
-    }
-    end(t, records);
-}
-
-fn next(t: Tally, i: u64) -> Turn {
-    let mut w = buffer();
-    match next_record(&mut w) {
-        Record::Whole(n) => shaped(t, i, &w[0..n]),
-        Record::DamagedAt(word) => Turn::DamagedAt(word),
-    }
-}
-
-// The longest record.
-fn buffer() -> [u64; 16384]
-    ensures { λ r. ⌜ 16384 ≡ length r ⌝ }
+fn next(t: Tally) -> Tally
+    requires { ⌜ 1 ≤ t .left ⌝ }
+    ensures { λ r. ⌜ r .left < t .left ⌝ }
 {
-    [0; 16384]
+    let mut w = word_room();
+    let r = next_record(&mut w);
+    let n = r.words;
+    if !r.whole {
+        return damaged(t, r.bad);
+    }
+    let v = shaped(&w[0..n]);
+    differs(t, v, b"statistics", b"targets", b"Gram", b"products");
+    tallied(t, v)
 }
 
-fn shaped(t: Tally, i: u64, w: &[u64]) -> Turn {
-    if w.len() < 6 {
-        return Turn::DamagedAt(0);
-    }
-    if w.len() > 16384 {
-        return Turn::DamagedAt(0);
-    }
-    if w[0] != 4 {
-        return Turn::DamagedAt(1);
-    }
-    let n = w[1] as usize;
-    if n > 4096 {
-        return Turn::DamagedAt(2);
-    }
-    let p = w[2] as usize;
-    if p > 64 {
-        return Turn::DamagedAt(3);
-    }
-    if p < 1 {
-        return Turn::DamagedAt(3);
-    }
-    sized(t, i, w, n, p)
-}
-
-fn sized(t: Tally, i: u64, w: &[u64], n: usize, p: usize) -> Turn
-    requires { ⌜ (length (now w) ≤ 16384) × (6 ≤ length (now w)) × (n ≤ 4096) × (p ≤ 64) × (1 ≤ p) ⌝ }
+fn shaped(w: &[u64]) -> Verdict
+    requires { ⌜ length (now w) ≤ 16384 ⌝ }
 {
-    let a = area(n, p);
-    let asked = 6 + a + 2 * n + 2 * p;
+    let s = shape_of(w, 4);
+    if !s.whole {
+        return Verdict::DamagedAt(s.bad);
+    }
+    let n = s.n;
+    let p = s.p;
+    let asked = 6 + area(n, p) + 2 * n + 2 * p;
     if w.len() != asked + 5 * p + 3 + 2 * n + area(p, p) {
-        return Turn::DamagedAt(0);
+        return Verdict::DamagedAt(0);
     }
     let c = compared(w, n, p, asked);
-    Turn::Tallied(tallied(t, i, c))
-}
-
-fn area(n: usize, p: usize) -> usize
-    requires { ⌜ (n ≤ 4096) × (p ≤ 64) ⌝ }
-    ensures { λ r. ⌜ (r ≡ n * p) × (r ≤ 262144) ⌝ }
-{
-    n * p
+    Verdict::Compared(c.statistics, c.targets, c.gram, c.products)
 }
 
 fn compared(w: &[u64], n: usize, p: usize, asked: usize) -> Seen
     requires { ⌜ Whole n p asked (now w) ⌝ }
 {
-    let mut space = numbers();
+    let mut space = number_room();
     let x = &mut space[0..asked - 6];
     load(&w[6..asked], x);
     let normalise = w[3] % 2 == 1;
@@ -141,12 +82,6 @@ fn compared(w: &[u64], n: usize, p: usize, asked: usize) -> Seen
         x,
         &w[asked..],
     )
-}
-
-fn numbers() -> [f64; 16384]
-    ensures { λ r. ⌜ 16384 ≡ length r ⌝ }
-{
-    [0.0; 16384]
 }
 
 struct Question {
@@ -211,51 +146,15 @@ fn settings_of(q: Question, rows: usize, cols: usize) -> Settings
     }
 }
 
-fn tallied(t: Tally, i: u64, c: Seen) -> Tally {
-    let same = c.statistics && c.targets && c.gram && c.products;
-    if !same && t.differ < 10 {
-        differs(i, c);
+fn end(t: Tally) {
+    if !t.whole {
+        return;
     }
-    Tally {
-        statistics: more(t.statistics, c.statistics),
-        targets: more(t.targets, c.targets),
-        grams: more(t.grams, c.gram),
-        products: more(t.products, c.products),
-        agree: more(t.agree, same),
-        differ: more(t.differ, !same),
-    }
-}
-
-fn differs(i: u64, c: Seen) {
-    io::write_all(1, b"record ");
-    io::print_decimal(1, i);
-    io::write_all(1, b" differs:");
-    if !c.statistics {
-        io::write_all(1, b" statistics");
-    }
-    if !c.targets {
-        io::write_all(1, b" targets");
-    }
-    if !c.gram {
-        io::write_all(1, b" Gram");
-    }
-    if !c.products {
-        io::write_all(1, b" products");
-    }
-    io::write_all(1, b"\n");
-}
-
-fn end(t: Tally, records: u64) {
-    io::write_all(1, b"statistics ");
-    of(t.statistics, records);
-    io::write_all(1, b", targets ");
-    of(t.targets, records);
-    io::write_all(1, b", Grams ");
-    of(t.grams, records);
-    io::write_all(1, b", products ");
-    of(t.products, records);
-    io::write_all(1, b"\ndesigns ");
-    of(t.agree, records);
+    of(b"statistics ", t.first, t.records);
+    of(b", targets ", t.second, t.records);
+    of(b", Grams ", t.third, t.records);
+    of(b", products ", t.fourth, t.records);
+    of(b"\ndesigns ", t.agree, t.records);
     io::write_all(
         1,
         b" agree: statistics, targets, Grams, products; panels 1 by 1, 7 by 3 and 256 by 32\n",

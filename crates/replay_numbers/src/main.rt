@@ -3,6 +3,9 @@
 mod record;
 
 use record::Record;
+use stored::next_word;
+use stored::report::of;
+use stored::tally::more;
 use words::Word;
 
 // No input has 2^64 words, so that none of these counts wraps.
@@ -15,9 +18,7 @@ struct Tally {
 }
 
 fn main() {
-    let mut first = [0u8; 17];
-    let n = io::read_full(0, &mut first);
-    match words::read_word(&first[..n], 0) {
+    match next_word() {
         Word::Number(records) => replay(records),
         Word::Bad => damaged(0),
     }
@@ -84,27 +85,10 @@ fn counted(t: Tally, kind: u64, same: bool) -> Tally {
     t
 }
 
-fn more(n: u64, yes: bool) -> u64 {
-    if yes {
-        std::num::wrapping_add_u64(n, 1)
-    } else {
-        n
-    }
-}
-
 fn report(t: Tally) {
-    io::write_all(1, b"roots ");
-    of(t.same_roots, t.roots);
-    io::write_all(1, b", logarithms ");
-    of(t.same_logarithms, t.logarithms);
-    io::write_all(1, b"\n");
-}
-
-fn of(same: u64, all: u64) {
-    io::print_decimal(1, same);
-    io::write_all(1, b" of ");
-    io::print_decimal(1, all);
-    io::write_all(1, b" agree");
+    of(b"roots ", t.same_roots, t.roots);
+    of(b" agree, logarithms ", t.same_logarithms, t.logarithms);
+    io::write_all(1, b" agree\n");
 }
 
 fn differs(kind: u64, argument: u64, got: u64, wanted: u64) {

@@ -1,89 +1,63 @@
 // Replays stored sheets and compares the text of each byte for byte. A record on standard input is the sheet's length in bytes and its bytes, then the length and the
 // bytes of its text: 8 bytes to a word, the first of them highest, and zeros behind the last.
 use sheet_fit::fit_sheet;
-use stored::Record;
 use stored::next_record;
-use stored::next_word;
-use stored::report::damaged;
-use stored::report::more;
-use stored::report::no_count;
 use stored::report::of;
-use words::Word;
+use stored::room::word_room;
+use stored::tally::Tally;
+use stored::tally::Verdict;
+use stored::tally::begun;
+use stored::tally::damaged;
+use stored::tally::differs;
+use stored::tally::tallied;
 ghost use mathlib.Core.Path.{_≡_};
 ghost use Prim.Native.Nat.{_*_, _≤_, _<_};
 ghost use lib.ListN.{length};
 
-struct Tally {
-    agree: u64,
-    differ: u64,
-}
-
-enum Turn {
-    Tallied(Tally),
-    // as of a record
-    DamagedAt(u64),
-}
-
 fn main() {
-    match next_word() {
-        Word::Number(records) => replay(records),
-        Word::Bad => no_count(),
+    let mut t = begun();
+    while t.left > 0 {
+        t = next(t);
     }
+    end(t);
 }
 
-fn replay(records: u64) {
-    let mut t = Tally {
-        agree: 0,
-        differ: 0,
-    };
-    for i in 0..records {
-        match next(t, i) {
-            Turn::Tallied(u) => t = u,
-            Turn::DamagedAt(word) => {
-                damaged(i, word);
-                return;
-            }
-        }
-    }
-    end(t, records);
-}
-
-fn next(t: Tally, i: u64) -> Turn {
-    let mut w = buffer();
-    match next_record(&mut w) {
-        Record::Whole(n) => shaped(t, i, &w[0..n]),
-        Record::DamagedAt(word) => Turn::DamagedAt(word),
-    }
-}
-
-// A sheet one byte too long, and the longest text.
-fn buffer() -> [u64; 4743]
-    ensures { λ r. ⌜ 4743 ≡ length r ⌝ }
+fn next(t: Tally) -> Tally
+    requires { ⌜ 1 ≤ t .left ⌝ }
+    ensures { λ r. ⌜ r .left < t .left ⌝ }
 {
-    [0; 4743]
+    let mut w = word_room();
+    let r = next_record(&mut w);
+    let n = r.words;
+    if !r.whole {
+        return damaged(t, r.bad);
+    }
+    let v = shaped(&w[0..n]);
+    differs(t, v, b"text", b"", b"", b"");
+    tallied(t, v)
 }
 
-fn shaped(t: Tally, i: u64, w: &[u64]) -> Turn {
+fn shaped(w: &[u64]) -> Verdict {
     if w.len() < 1 {
-        return Turn::DamagedAt(0);
+        return Verdict::DamagedAt(0);
     }
     let n = w[0] as usize;
     if n > 35879 {
-        return Turn::DamagedAt(1);
+        return Verdict::DamagedAt(1);
     }
     let k = words_for(n);
     if w.len() < k + 2 {
-        return Turn::DamagedAt(0);
+        return Verdict::DamagedAt(0);
     }
     let m = w[k + 1] as usize;
     if m > 2048 {
-        return Turn::DamagedAt(k as u64 + 2);
+        return Verdict::DamagedAt(k as u64 + 2);
     }
     if w.len() != k + 2 + words_for(m) {
-        return Turn::DamagedAt(0);
+        return Verdict::DamagedAt(0);
     }
     let same = compared(&w[1..k + 1], n, &w[k + 2..], m);
-    Turn::Tallied(tallied(t, i, same))
+    Verdict::Compared(same, true, true, true)
 }
 
 fn words_for(n: usize) -> usize
@@ -159,20 +133,10 @@ fn unit(k: usize) -> u64
     }
 }
 
-fn tallied(t: Tally, i: u64, same: bool) -> Tally {
-    if !same && t.differ < 10 {
-        io::write_all(1, b"sheet ");
-        io::print_decimal(1, i);
-        io::write_all(1, b" differs\n");
+fn end(t: Tally) {
+    if !t.whole {
+        return;
     }
-    Tally {
-        agree: more(t.agree, same),
-        differ: more(t.differ, !same),
-    }
-}
-
-fn end(t: Tally, records: u64) {
-    io::write_all(1, b"sheets ");
-    of(t.agree, records);
+    of(b"sheets ", t.agree, t.records);
     io::write_all(1, b" agree\n");
 }

@@ -3,98 +3,62 @@
 use lone_trial::Case;
 use lone_trial::Seen;
 use lone_trial::trial;
-use stored::Record;
 use stored::next_record;
-use stored::next_word;
-use stored::report::damaged;
-use stored::report::more;
-use stored::report::no_count;
 use stored::report::of;
-use words::Word;
+use stored::room::word_room;
+use stored::shape::area;
+use stored::tally::Tally;
+use stored::tally::Verdict;
+use stored::tally::begun;
+use stored::tally::damaged;
+use stored::tally::differs;
+use stored::tally::tallied;
 ghost use mathlib.Core.Path.{_≡_};
-ghost use Prim.Native.Nat.{_+_, _*_, _≤_};
+ghost use Prim.Native.Nat.{_+_, _*_, _≤_, _<_};
 ghost use lib.ListN.{length};
 
-struct Tally {
-    agree: u64,
-    kept: u64,
-    differ: u64,
-}
-
-enum Turn {
-    Tallied(Tally),
-    // as of a record
-    DamagedAt(u64),
-}
-
 fn main() {
-    match next_word() {
-        Word::Number(records) => replay(records),
-        Word::Bad => no_count(),
+    let mut t = begun();
+    while t.left > 0 {
+        t = next(t);
     }
+    end(t);
 }
 
-fn replay(records: u64) {
-    let mut t = Tally {
-        agree: 0,
-        kept: 0,
-        differ: 0,
-    };
-    for i in 0..records {
-        match next(t, i) {
-            Turn::Tallied(u) => t = u,
-            Turn::DamagedAt(word) => {
-                damaged(i, word);
-                return;
-            }
-        }
-    }
-    end(t, records);
-}
-
-fn next(t: Tally, i: u64) -> Turn {
-    let mut w = buffer();
-    match next_record(&mut w) {
-        Record::Whole(n) => shaped(t, i, &w[0..n]),
-        Record::DamagedAt(word) => Turn::DamagedAt(word),
-    }
-}
-
-// A record of order 64.
-fn buffer() -> [u64; 4294]
-    ensures { λ r. ⌜ 4294 ≡ length r ⌝ }
+fn next(t: Tally) -> Tally
+    requires { ⌜ 1 ≤ t .left ⌝ }
+    ensures { λ r. ⌜ r .left < t .left ⌝ }
 {
-    [0; 4294]
+    let mut w = word_room();
+    let r = next_record(&mut w);
+    let n = r.words;
+    if !r.whole {
+        return damaged(t, r.bad);
+    }
+    let v = shaped(&w[0..n]);
+    differs(t, v, b"answer", b"scratch", b"", b"");
+    tallied(t, v)
 }
 
-fn shaped(t: Tally, i: u64, w: &[u64]) -> Turn {
+fn shaped(w: &[u64]) -> Verdict {
     if w.len() < 4 {
-        return Turn::DamagedAt(0);
+        return Verdict::DamagedAt(0);
     }
     if w[0] != 2 {
-        return Turn::DamagedAt(1);
+        return Verdict::DamagedAt(1);
     }
     let n = w[1] as usize;
     if n > 64 {
-        return Turn::DamagedAt(2);
+        return Verdict::DamagedAt(2);
     }
-    let m = square(n);
+    let m = area(n, n);
     if w.len() != 6 + m + 3 * n {
-        return Turn::DamagedAt(0);
+        return Verdict::DamagedAt(0);
     }
-    Turn::Tallied(tallied(t, i, compared(w, n, m)))
+    compared(w, n, m)
 }
 
-fn square(n: usize) -> usize
-    requires { ⌜ n ≤ 64 ⌝ }
-    ensures { λ r. ⌜ r ≤ 4096 ⌝ }
-{
-    n * n
-}
-
-// Whether answer and solution are those stored, and whether the scratch was kept or cleared.
-struct Verdict(bool, bool);
-
+// Answer and solution, and whether the scratch was kept or cleared.
 fn compared(w: &[u64], n: usize, m: usize) -> Verdict
     requires { ⌜ (length (now w) ≡ 6 + m + 3 * n) × (m ≤ 4096) × (n ≤ 64) ⌝ }
 {
@@ -109,42 +73,18 @@ fn compared(w: &[u64], n: usize, m: usize) -> Verdict
     };
     let e = 4 + m + 2 * n;
     let r = trial(c, &w[4..e], &w[e + 2..]);
-    Verdict(agrees(r, w[e], w[e + 1]), r.scratch)
+    Verdict::Compared(agrees(r, w[e], w[e + 1]), r.scratch, true, true)
 }
 
 fn agrees(r: Seen, refusal: u64, error: u64) -> bool {
     r.refusal == refusal && r.place == 0 && r.error == error && r.solution
 }
 
-fn tallied(t: Tally, i: u64, c: Verdict) -> Tally {
-    let same = c.0 && c.1;
-    if !same && t.differ < 10 {
-        differs(i, c);
+fn end(t: Tally) {
+    if !t.whole {
+        return;
     }
-    Tally {
-        agree: more(t.agree, c.0),
-        kept: more(t.kept, c.1),
-        differ: more(t.differ, !same),
-    }
-}
-
-fn differs(i: u64, c: Verdict) {
-    io::write_all(1, b"record ");
-    io::print_decimal(1, i);
-    io::write_all(1, b" differs:");
-    if !c.0 {
-        io::write_all(1, b" answer");
-    }
-    if !c.1 {
-        io::write_all(1, b" scratch");
-    }
-    io::write_all(1, b"\n");
-}
-
-fn end(t: Tally, records: u64) {
-    io::write_all(1, b"solver ");
-    of(t.agree, records);
-    io::write_all(1, b" agree, scratch kept and cleared in ");
-    of(t.kept, records);
+    of(b"solver ", t.first, t.records);
+    of(b" agree, scratch kept and cleared in ", t.second, t.records);
     io::write_all(1, b"\n");
 }

@@ -3,8 +3,9 @@ use mathlib.Core.Path.{_≡_}
 use mathlib.Core.Bool.{true, _&&_}
 use lib.Dec.{T, leb, leb→le}
 use lib.Ieee.Fits.{and-l, and-r}
+use Rattle.numbers.specs.Constants.{one}
 use Rattle.settings.specs.declared.Settings.{Settings}
-use Rattle.settings.specs.Settings.{rangeOf, million, one, largest, panelsOf, allowedOf, Panels, Allowed}
+use Rattle.settings.specs.Settings.{rangeOf, million, largest, panelsOf, allowedOf, Panels, Allowed}
 
 panels-say : (st : Settings) → T (panelsOf st) → st .lazy ≡ true → Panels st
 unfolding panelsOf

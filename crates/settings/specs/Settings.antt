@@ -7,6 +7,7 @@ use lib.Ieee.{Float, le}
 use Rattle.numbers.specs.Ops.{_⊕_, _⊖_, _⊗_, _⊘_, f64}
 use Rattle.numbers.specs.Order.{maximumOf}
 use Rattle.numbers.specs.Root.{rootOf}
+use Rattle.numbers.specs.Constants.{one, epsilon}
 use Rattle.arrays.specs.Sums.{whole}
 use Rattle.settings.specs.declared.Settings.{Settings}
 use Rattle.settings.specs.declared.Terms.{Terms}
@@ -23,16 +24,9 @@ panelsOf st =
 abbrev pub million : Float
 million = f64 0x412e_8480_0000_0000
 
-abbrev pub one : Float
-one = f64 0x3ff0_0000_0000_0000
-
 -- the largest finite number
 abbrev pub largest : Float
 largest = f64 0x7fef_ffff_ffff_ffff
-
--- 2 ^ -52
-abbrev pub epsilon : Float
-epsilon = f64 0x3cb0_0000_0000_0000
 
 unfoldable pub allowedOf : Settings → Bool
 allowedOf st =

@@ -4,20 +4,21 @@ use mathlib.Core.List.{List, [], _∷_}
 use Prim.Native.Nat.{ℕ}
 use lib.ListN.{length, set}
 use lib.Seq.{sets}
-use lib.Ieee.{Float, binary64, toBits}
+use lib.Ieee.{Float}
 use borrow.Author.Tests.{eq-eqb, ne-eqb}
 use Rattle.arrays.specs.Part.{put, put-all}
 use Rattle.sheet.specs.declared.Header.{Header}
 use Rattle.sheet.specs.declared.Read.{Read}
 use Rattle.sheet.specs.Sheet.{outcome, sheetOf, headerRead}
-use Rattle.sheet_api.specs.Calls.{called, truthWord, headerWords, numberIn, placeIn, headerIn, readHeaderWords, readAs, readSheetWords}
+use Rattle.c_values.specs.Values.{truthWord, floatsWords}
+use Rattle.sheet_api.specs.Calls.{called, headerWords, numberIn, placeIn, headerIn, readHeaderWords, readAs, readSheetWords}
 
-pub header-written : (h : Header) (l : List ℕ) {a b t m z : ℕ} → length l ≡ 10
-    → a ≡ toBits binary64 (h .settings .alpha) → b ≡ toBits binary64 (h .settings .«l1_ratio») → t ≡ toBits binary64 (h .settings .tol)
+pub header-written : (h : Header) (l : List ℕ) {f : List ℕ} {m z : ℕ} → length l ≡ 10
+    → f ≡ sets (set (set l 0 (h .n)) 1 (h .p)) 2 (floatsWords (record { 0 = h .settings .alpha; 1 = h .settings .«l1_ratio»; 2 = h .settings .tol }))
     → m ≡ truthWord (h .settings .normalise) → z ≡ truthWord (h .settings .lazy)
-    → sets l 0 (h .n ∷ h .p ∷ a ∷ b ∷ t ∷ h .settings .rounds ∷ h .settings .«panel_rows» ∷ h .settings .«panel_cols» ∷ m ∷ z ∷ []) ≡ headerWords h
+    → sets f 5 (h .settings .rounds ∷ h .settings .«panel_rows» ∷ h .settings .«panel_cols» ∷ m ∷ z ∷ []) ≡ headerWords h
 unfolding headerWords put
-header-written h l e ea eb et em ez = rw (ea, eb, et, em, ez) (put-all l (headerWords h) (sym e))
+header-written h l e ef em ez = rw (ef, em, ez) (put-all l (headerWords h) (sym e))
 
 -- ---- the header alone
 

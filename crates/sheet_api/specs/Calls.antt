@@ -1,5 +1,5 @@
 -- What the calls over bytes and words return and leave. Words of another number than due are refusal 2, with nothing written. Definitions only.
-use mathlib.Core.Bool.{Bool, true, false, _&&_, cond}
+use mathlib.Core.Bool.{_&&_, cond}
 use mathlib.Core.List.{List, [], _∷_}
 use Prim.Native.Nat.{ℕ}
 use lib.Dec.{eqb}
@@ -10,14 +10,11 @@ use Rattle.sheet.specs.declared.Header.{Header}
 use Rattle.sheet.specs.declared.Read.{Read}
 use Rattle.sheet.specs.declared.Read.the-variants.{Sheet, Refused}
 use Rattle.sheet.specs.Sheet.{Outcome, outcome, sheetOf, headerRead}
+use Rattle.c_values.specs.Values.{truthWord}
 
 -- the number of a refusal, or 0; the header's words, the place's word, matrix and targets
 pub data Called : Type 0 where
   called : ℕ → List ℕ → List ℕ → List Float → List Float → Called
-
-abbrev pub truthWord : Bool → ℕ
-truthWord true = 1
-truthWord false = 0
 
 -- n, p, and the settings as the fit's calls take them: alpha, l1_ratio, tol, M, R, C, normalise, lazy
 unfoldable pub headerWords : Header → List ℕ

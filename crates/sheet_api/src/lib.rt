@@ -1,6 +1,8 @@
 // The training sheet's reader for C and Rust, over bytes, with the header as words (specs/Calls.antt says which).
 // Each call returns the number of the refusal, 0 where there is none; words of another number than due are refusal 2, and then nothing is written.
-use numbers::bits::bits_of;
+use c_values::Floats;
+use c_values::truth_word;
+use c_values::write_floats;
 use refusal::number;
 use refusal::place;
 use sheet::Header;
@@ -10,13 +12,7 @@ use sheet::read_sheet;
 ghost use mathlib.Core.Path.{_≡_};
 ghost use mathlib.Core.List.{[]};
 ghost use lib.ListN.{length};
-ghost use Rattle.sheet_api.specs.Calls.{Called.called, truthWord, headerWords, numberIn, placeIn, headerIn, readHeaderWords, readSheetWords};
-
-fn truth_word(b: bool) -> u64
-    ensures { λ r. ⌜ r ≡ truthWord b ⌝ }
-{
-    if b { 1 } else { 0 }
-}
+ghost use Rattle.sheet_api.specs.Calls.{Called.called, headerWords, numberIn, placeIn, headerIn, readHeaderWords, readSheetWords};
 
 fn write_words(h: Header, out: &mut [u64])
     requires { ⌜ length (now out) ≡ 10 ⌝ }
@@ -25,9 +21,7 @@ fn write_words(h: Header, out: &mut [u64])
     let st = h.settings;
     out[0] = h.n as u64;
     out[1] = h.p as u64;
-    out[2] = bits_of(st.alpha);
-    out[3] = bits_of(st.l1_ratio);
-    out[4] = bits_of(st.tol);
+    write_floats(Floats(st.alpha, st.l1_ratio, st.tol), out, 2);
     out[5] = st.rounds;
     out[6] = st.panel_rows as u64;
     out[7] = st.panel_cols as u64;

@@ -5,6 +5,7 @@ use mathlib.Core.List.{List}
 use Prim.Native.Nat.{ℕ, _*_}
 use lib.Dec.{eqb}
 use lib.Ieee.{Float, lt, le}
+use Rattle.numbers.specs.Constants.{one}
 use Rattle.arrays.specs.Part.{part}
 use Rattle.arrays.specs.Sums.{dotOf, sumOf}
 use Rattle.settings.specs.declared.Terms.{Terms}
@@ -15,7 +16,6 @@ use Rattle.bg_solver.specs.declared.shared.Turned.{Turned as Answer}
 use Rattle.bg_solver.specs.declared.shared.Turned.the-variants.{Stop, More}
 use Rattle.bg_solver.specs.Shared.{turnBy}
 use Rattle.inner_solver.specs.Inner.{DidTurn as DidRound, turnStore}
-use Rattle.newton.specs.Newton.{one}
 use Rattle.line_search.specs.Search.{sumlognegOf, phiOf}
 use Rattle.lasso_optimizer.specs.declared.Scalars.{Scalars}
 use Rattle.lasso_optimizer.specs.declared.Turned.{Turned}

@@ -2,6 +2,7 @@
 use numbers::bits::bits_of;
 use numbers::bits::of_bits;
 ghost use mathlib.Core.Path.{_≡_};
+ghost use Prim.Native.Nat.{_≤_};
 ghost use lib.ListN.{length};
 ghost use Rattle.stored.specs.Stored.{numbersOf, bitsOf, Says};
 
@@ -21,6 +22,18 @@ pub fn same(x: &[f64], w: &[u64]) -> bool
 {
     for i in 0..x.len() {
         if bits_of(x[i]) != w[i] {
+            return false;
+        }
+    }
+    true
+}
+
+// Have all from a up to b these bits?
+pub fn all(x: &[f64], a: usize, b: usize, bits: u64) -> bool
+    requires { ⌜ b ≤ length (now x) ⌝ }
+{
+    for i in a..b {
+        if bits_of(x[i]) != bits {
             return false;
         }
     }

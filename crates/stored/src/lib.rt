@@ -3,6 +3,9 @@
 pub mod bits;
 pub mod marks;
 pub mod report;
+pub mod room;
+pub mod shape;
+pub mod tally;
 
 use words::Parsed;
 use words::Word;
@@ -11,13 +14,13 @@ use words::read_words;
 ghost use mathlib.Core.Path.{_≡_};
 ghost use Prim.Native.Nat.{_≤_, min};
 ghost use lib.ListN.{length};
-ghost use Rattle.stored.specs.Stored.{Within};
 
-pub enum Record {
+pub struct Record {
     // how many words it has; they stand at the front of the buffer
-    Whole(usize),
-    // the place of the first word that is bad, or missing; word 0 is the length, which is bad too where the buffer is shorter
-    DamagedAt(u64),
+    pub words: usize,
+    pub whole: bool,
+    // where it is not whole, the place of the first word that is bad, or missing; word 0 is the length, which is bad too where the buffer is shorter
+    pub bad: u64,
 }
 
 pub fn next_word() -> Word {
@@ -27,18 +30,32 @@ pub fn next_word() -> Word {
 }
 
 pub fn next_record(out: &mut [u64]) -> Record
-    ensures { λ r. ⌜ Within r (length (now (out .exit))) ⌝ }
+    ensures { λ r. ⌜ r .words ≤ length (now (out .exit)) ⌝ }
 {
     let Word::Number(n) = next_word() else {
-        return Record::DamagedAt(0);
+        return damaged(0);
     };
     let n = n as usize;
     if n > out.len() {
-        return Record::DamagedAt(0);
+        return damaged(0);
     }
     match fill(out, n) {
-        Parsed::Whole => Record::Whole(n),
-        Parsed::BadAt(i) => Record::DamagedAt(std::num::wrapping_add_u64(i as u64, 1)),
+        Parsed::Whole => Record {
+            words: n,
+            whole: true,
+            bad: 0,
+        },
+        Parsed::BadAt(i) => damaged(std::num::wrapping_add_u64(i as u64, 1)),
+    }
+}
+
+fn damaged(bad: u64) -> Record
+    ensures { λ r. ⌜ r .words ≡ 0 ⌝ }
+{
+    Record {
+        words: 0,
+        whole: false,
+        bad,
     }
 }
 

@@ -14,7 +14,7 @@ returns c =
     let n = c .before .before in
     let a = n .before .before .before in
     let g = a .args in
-    stops (parts (g .sh) (g .tm) (g .tol) (g .m .now)) (g .limit) (g .rec) (a .pre .1 .1) (g .budget) (g .sh) (g .s .now)
+    stops (parts (g .sh) (g .tm) (g .tol) (g .m .now)) (g .limit) (g .rec) (g .budget) (g .sh) (g .s .now)
     (sym (n .spent .ensures) ∙ c .before .if1 .taken) (a .pre .0 .room)
 
 run-steps-requires : tie.Need-run-steps-requires
@@ -32,8 +32,8 @@ returns-2 c =
     let n = c .before .before .before .before .before in
     let a = n .before .before .before in
     let g = a .args in
-    goes (parts (g .sh) (g .tm) (g .tol) (g .m .now)) (g .limit) (g .rec) (a .pre .1 .1) (g .budget) (g .sh) (g .s .now)
-    (sym (n .spent .ensures) ∙ c .before .before .before .before .if1 .left) (c .before .before .run-steps .ensures)
+    goes (parts (g .sh) (g .tm) (g .tol) (g .m .now)) (g .limit) (g .rec) (g .budget) (g .sh) (g .s .now)
+    (a .pre .1 .1) (sym (n .spent .ensures) ∙ c .before .before .before .before .if1 .left) (c .before .before .run-steps .ensures)
 
 pub go-spec : {M : Type 1} → statement M
 go-spec = tie.close (tie.spec spent-requires returns run-steps-requires same-length returns-2)

@@ -3,9 +3,10 @@ use Prim.Native.Nat.{_*_, _-_}
 use native.Mathlib.Omega.{arith}
 use lib.Ieee.{Float}
 use Rattle.numbers.specs.Ops.{_⊕_, _⊗_}
+use Rattle.numbers.specs.Constants.{two}
 use Rattle.arrays.specs.Part.{part}
 use Rattle.arrays.proofs.Turns.{Made, made-none, made-all}
-use Rattle.inner_solver.specs.Inner.{two, lowTimes}
+use Rattle.inner_solver.specs.Inner.{lowTimes}
 use Rattle.inner_solver.proofs.Loops.{reads-more}
 use Rattle.inner_solver.proofs.low_times.Statement.{statement}
 use Rattle.inner_solver.proofs.low_times.Tie as tie

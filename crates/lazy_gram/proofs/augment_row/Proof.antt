@@ -12,7 +12,7 @@ use Rattle.arrays.specs.Part.{part, put, tab, tab-ext, length-tab, getD-part, g
 use Rattle.arrays.specs.Sums.{_!_}
 use Rattle.arrays.specs.Vectors.{mapOf}
 use Rattle.arrays.proofs.Commute.{times-comm}
-use Rattle.lazy_gram.specs.Panels.{raisedAt}
+use Rattle.lazy_gram.specs.Nest.{raisedAt}
 use Rattle.lazy_gram.proofs.augment_row.Statement.{statement}
 use Rattle.lazy_gram.proofs.augment_row.Tie as tie
 

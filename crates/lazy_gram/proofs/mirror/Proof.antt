@@ -3,8 +3,8 @@ use mathlib.Core.Path.{_≡_, refl, sym, ap, _∙_}
 use Prim.Native.Nat.{ℕ, suc, _+_, _-_, _*_, _≤_, _<_}
 use native.Mathlib.Nat.{mul-add, mul-one, suc-mul, add-mul}
 use native.Mathlib.Omega.{arith}
-use Rattle.lazy_gram.specs.Panels.{right-of, turned}
-use Rattle.lazy_gram.proofs.Mats.{row-le, Striped, striped-none, striped-more, striped-all, beyond-rows}
+use Rattle.gram_panels.proofs.Mats.{row-le, Striped, striped-none, striped-more, striped-all, beyond-rows}
+use Rattle.lazy_gram.specs.Nest.{right-of, turned}
 use Rattle.lazy_gram.proofs.mirror.Statement.{statement}
 use Rattle.lazy_gram.proofs.mirror.Tie as tie
 

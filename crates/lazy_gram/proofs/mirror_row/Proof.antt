@@ -6,8 +6,8 @@ use lib.ListN.{set}
 use lib.Ieee.{Float, nan}
 use Rattle.arrays.specs.Part.{tab, length-tab, getD-put-below}
 use Rattle.arrays.proofs.Turns.{Made, made-none, made-more, made-all}
-use Rattle.lazy_gram.specs.Panels.{across}
-use Rattle.lazy_gram.proofs.Mats.{row-le}
+use Rattle.gram_panels.proofs.Mats.{row-le}
+use Rattle.lazy_gram.specs.Nest.{across}
 use Rattle.lazy_gram.proofs.mirror_row.Statement.{statement}
 use Rattle.lazy_gram.proofs.mirror_row.Tie as tie
 

@@ -3,8 +3,9 @@ use mathlib.Core.Path.{_≡_, refl, _∙_}
 use Prim.Native.Nat.{_+_, _-_, _*_, _≤_}
 use native.Mathlib.Omega.{arith}
 use lib.ListN.{length}
-use Rattle.lazy_gram.specs.Panels.{Like, same, advanced}
-use Rattle.lazy_gram.proofs.Mats.{row-le, length-mat}
+use Rattle.gram_panels.specs.Panels.{same}
+use Rattle.gram_panels.proofs.Mats.{row-le, length-mat}
+use Rattle.lazy_gram.specs.Nest.{Like, advanced}
 use Rattle.lazy_gram.proofs.Nest.{rows-room, pairs-start, pairs-block, pairs-turn}
 use Rattle.lazy_gram.proofs.pairs.Statement.{statement}
 use Rattle.lazy_gram.proofs.pairs.Tie as tie

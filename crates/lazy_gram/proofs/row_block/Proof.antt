@@ -5,8 +5,9 @@ use native.Mathlib.Nat.{zero-mul, suc-mul}
 use native.Mathlib.Numerals.{add-one}
 use native.Mathlib.Omega.{arith}
 use lib.ListN.{length}
-use Rattle.lazy_gram.specs.Panels.{Like, least, advancedLow}
-use Rattle.lazy_gram.proofs.Mats.{length-mat}
+use Rattle.gram_panels.specs.Panels.{least}
+use Rattle.gram_panels.proofs.Mats.{length-mat}
+use Rattle.lazy_gram.specs.Nest.{Like, advancedLow}
 use Rattle.lazy_gram.proofs.Nest.{block-start, block-turn}
 use Rattle.lazy_gram.proofs.row_block.Statement.{statement}
 use Rattle.lazy_gram.proofs.row_block.Tie as tie

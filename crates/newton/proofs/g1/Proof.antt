@@ -3,10 +3,11 @@ use Prim.Native.Nat.{_-_}
 use native.Mathlib.Omega.{arith}
 use lib.Ieee.{Float}
 use Rattle.numbers.specs.Ops.{_⊖_, _⊗_, _⊘_}
+use Rattle.numbers.specs.Constants.{two}
 use Rattle.arrays.specs.Part.{part}
 use Rattle.arrays.specs.Sums.{_!_}
 use Rattle.arrays.proofs.Turns.{Made, made-none, made-all}
-use Rattle.newton.specs.Newton.{two, g1Of}
+use Rattle.newton.specs.Newton.{g1Of}
 use Rattle.newton.proofs.Three.{three-more}
 use Rattle.newton.proofs.g1.Statement.{statement}
 use Rattle.newton.proofs.g1.Tie as tie

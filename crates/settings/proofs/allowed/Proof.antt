@@ -2,7 +2,8 @@
 use mathlib.Core.Path.{_≡_, sym, _∙_}
 use mathlib.Core.Bool.{true}
 use borrow.Author.Tests.{not-true, not-false, le-leb, lt-leb}
-use Rattle.settings.specs.Settings.{allowedOf, rangeOf, million, one, largest}
+use Rattle.numbers.specs.Constants.{one}
+use Rattle.settings.specs.Settings.{allowedOf, rangeOf, million, largest}
 use Rattle.settings.proofs.allowed.Statement.{statement}
 use Rattle.settings.proofs.allowed.Tie as tie
 

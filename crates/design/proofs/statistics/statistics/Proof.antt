@@ -1,7 +1,7 @@
 -- `design::statistics::statistics` meets its contract: two slots are written. Assumes nothing.
 use Prim.Native.Nat.{ℕ}
 use mathlib.Core.Bool.{Bool}
-use mathlib.Core.Path.{_≡_, ap, _∙_}
+use mathlib.Core.Path.{_≡_, refl, ap, _∙_}
 use mathlib.Core.List.{List}
 use native.Mathlib.Omega.{arith}
 use lib.Ieee.{Float}
@@ -26,11 +26,8 @@ stored sh l normalise m s r t u e1 e2 =
     (e1 ∙ ap (λ (a : ℕ). put s a ce) (r .laid .at-centre)))
     SCALE (λ v. sc) (length-scales normalise m (sh .n) (sh .p)) (e2 ∙ ap (λ (a : ℕ). put t a sc) (r .laid .at-scale))
 
-means-requires : tie.Need-means-requires
-means-requires c κs = omega arith
-
-deviations-requires : tie.Need-deviations-requires
-deviations-requires c κs = omega arith
+moments-requires : tie.Need-moments-requires
+moments-requires c κs = omega arith
 
 same-length : tie.Need-same-length
 same-length c = omega arith
@@ -38,13 +35,13 @@ same-length c = omega arith
 returns : tie.Need-returns
 unfolding centresOf scalesOf
 returns c =
-    let deviations = c .before .before in
-    let means = deviations .before .before .before .before in
-    let branch = means .before .before in
+    let made = c .before .before in
+    let branch = made .before .before in
     let at = branch .before .before .before in
     let g = at .args in
-    stored (g .sh) (g .l) (g .normalise) (g .m .now) (g .s .now) (at .pre .room) (means .means .last .1 .1 .1 .0) (deviations .deviations .last .1 .1 .1 .0)
-    (rw (branch .if1 .taken) (means .means .ensures)) (rw (branch .if1 .taken) (deviations .deviations .ensures))
+    let centred = put (g .s .now) (g .l .centre) (centresOf (g .normalise) (g .m .now) (g .sh .n) (g .sh .p)) in
+    stored (g .sh) (g .l) (g .normalise) (g .m .now) (g .s .now) (at .pre .room) centred (made .moments .last .1 .1 .1 .0) refl
+    (rw (branch .if1 .taken) (made .moments .ensures))
 
 fill-requires : tie.Need-fill-requires
 fill-requires c κs = omega arith
@@ -70,8 +67,7 @@ pub statistics-spec : {M : Type 1} → statement M
 statistics-spec =
     tie.close
     (tie.spec
-    means-requires
-    deviations-requires
+    moments-requires
     same-length
     returns
     fill-requires

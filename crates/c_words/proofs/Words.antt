@@ -1,0 +1,72 @@
+-- A record's words say the record again: what a call writes is what the next one reads. Assumes nothing.
+use mathlib.Core.Path.{_≡_, refl}
+use mathlib.Core.Bool.{Bool, true, false}
+use mathlib.Core.List.{List}
+use Prim.Native.Nat.{ℕ}
+use lib.Dec.{T}
+use lib.Ieee.{binary64, fits}
+use lib.Ieee.Bits.{ofBits-toBits, ofBits-fits}
+use Rattle.lasso_optimizer.specs.declared.Scalars.{Scalars}
+use Rattle.stages.specs.declared.Paused.{Paused}
+use Rattle.stages.specs.declared.Stage.{Stage}
+use Rattle.stages.specs.declared.Stage.the-variants.{Opening, Solving, Searching, Ended}
+use Rattle.c_values.specs.Values.{word, truth, truthWord}
+use Rattle.c_words.specs.Words.{stageFrom, stageWord, indexWord, pausedFrom, pausedWords}
+
+-- each scalar is a value of binary64
+pub record Fit (v : Scalars) : Type 0 where
+  pub t : T (fits binary64 (v .t))
+  pub s : T (fits binary64 (v .s))
+  pub dual : T (fits binary64 (v .dual))
+  pub tol : T (fits binary64 (v .tol))
+  pub bnrm : T (fits binary64 (v .bnrm))
+  pub bkden : T (fits binary64 (v .bkden))
+  pub error : T (fits binary64 (v .error))
+  pub phi : T (fits binary64 (v .phi))
+  pub gdx : T (fits binary64 (v .gdx))
+
+stage-again : (g : Stage) → stageFrom (stageWord g) (indexWord g) ≡ g
+stage-again Opening = refl
+stage-again (Solving k) = refl
+stage-again (Searching j) = refl
+stage-again Ended = refl
+
+truth-again : (b : Bool) → truth (truthWord b) ≡ b
+truth-again true = refl
+truth-again false = refl
+
+pub record-round-trip : (a : Paused) → Fit (a .scalars) → pausedFrom (pausedWords a) ≡ a
+unfolding pausedFrom pausedWords
+record-round-trip a h =
+    let v = a .scalars in
+    rw (
+      stage-again (a .stage),
+      ofBits-toBits binary64 (v .t) (h .t),
+      ofBits-toBits binary64 (v .s) (h .s),
+      ofBits-toBits binary64 (v .dual) (h .dual),
+      ofBits-toBits binary64 (v .tol) (h .tol),
+      ofBits-toBits binary64 (v .bnrm) (h .bnrm),
+      ofBits-toBits binary64 (v .bkden) (h .bkden),
+      ofBits-toBits binary64 (v .error) (h .error),
+      ofBits-toBits binary64 (v .phi) (h .phi),
+      ofBits-toBits binary64 (v .gdx) (h .gdx),
+      truth-again (v .missed),
+    )
+
+read-fits : (w : List ℕ) → Fit (pausedFrom w .scalars)
+unfolding pausedFrom
+read-fits w = record {
+  t = ofBits-fits binary64 (word w 6);
+  s = ofBits-fits binary64 (word w 7);
+  dual = ofBits-fits binary64 (word w 8);
+  tol = ofBits-fits binary64 (word w 9);
+  bnrm = ofBits-fits binary64 (word w 10);
+  bkden = ofBits-fits binary64 (word w 11);
+  error = ofBits-fits binary64 (word w 12);
+  phi = ofBits-fits binary64 (word w 13);
+  gdx = ofBits-fits binary64 (word w 14);
+}
+
+-- what is read of any words is read of its own words too
+pub read-again : (w : List ℕ) → pausedFrom (pausedWords (pausedFrom w)) ≡ pausedFrom w
+read-again w = record-round-trip (pausedFrom w) (read-fits w)

@@ -1,0 +1,2 @@
+pub mod Mats
+pub mod Sums

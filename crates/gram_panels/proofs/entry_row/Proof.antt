@@ -1,0 +1,130 @@
+-- `gram_panels::entry_row` meets its contract. The invariant: the sums are those after i rows of the panels. Assumes nothing.
+use mathlib.Core.Path.{_≡_}
+use Prim.Native.Nat.{ℕ, _+_, _-_, _*_, _≤_}
+use native.Mathlib.Nat.{add-mul, mul-le-mul-right}
+use native.Mathlib.Omega.{arith}
+use Rattle.arrays.proofs.Turns.{Made}
+use Rattle.gram_panels.specs.Panels.{sumAt}
+use Rattle.gram_panels.proofs.Sums.{sums-none, sums-more}
+use Rattle.gram_panels.proofs.entry_row.Statement.{statement}
+use Rattle.gram_panels.proofs.entry_row.Tie as tie
+
+-- n rows from row i lie within nr
+rows-le : (i n nr cc : ℕ) → i + n ≤ nr → i * cc + n * cc ≤ nr * cc
+rows-le i n nr cc h = rw (← add-mul i n cc) (mul-le-mul-right cc h)
+
+abbrev Inv-loop : tie.InvT-loop
+Inv-loop s₀ at w l r cc nr i₀ s i = (i ≤ nr) × Made s₀ at w (sumAt s₀ at l r cc i) s w
+
+abbrev μ-loop : tie.MeasureT-loop
+μ-loop s₀ at w l r cc nr i₀ s i = nr - i
+
+loop-holds : tie.Need-loop-holds Inv-loop μ-loop
+loop-holds c = (omega arith, sums-none (c .before .pre))
+
+sub-loop : tie.Need-sub-loop Inv-loop μ-loop
+sub-loop c = omega arith
+
+mul-q : tie.Need-mul-q Inv-loop μ-loop
+mul-q c =
+    let at = c .before in
+    let g = at .before .before .args in
+    let h = rows-le (at .loop .i) 4 (g .nr) (g .cc) (omega arith) in
+    omega arith
+
+add-four-rows : tie.Need-add-four-rows Inv-loop μ-loop
+add-four-rows c =
+    let at = c .before .before in
+    let g = at .before .before .args in
+    let h = rows-le (at .loop .i) 4 (g .nr) (g .cc) (omega arith) in
+    omega arith
+
+add-four-rows-2 : tie.Need-add-four-rows-2 Inv-loop μ-loop
+add-four-rows-2 c =
+    let at = c .before .before in
+    let g = at .before .before .args in
+    let h = rows-le (at .loop .i) 4 (g .nr) (g .cc) (omega arith) in
+    omega arith
+
+four-rows-requires : tie.Need-four-rows-requires Inv-loop μ-loop
+four-rows-requires c κs =
+    let at = c .before .before in
+    let g = at .before .before .args in
+    let h = rows-le (at .loop .i) 4 (g .nr) (g .cc) (omega arith) in
+    record { room = omega arith; width = omega arith; left = omega arith; fits = omega arith; right = omega arith }
+
+add-i : tie.Need-add-i Inv-loop μ-loop
+add-i c = omega arith
+
+loop-less : tie.Need-loop-less Inv-loop μ-loop
+loop-less c = omega arith
+
+loop-again : tie.Need-loop-again Inv-loop μ-loop
+loop-again c =
+    let at = c .before .before .before .before .before in
+    (omega arith, sums-more (at .before .before .pre) (at .loop .i) 4 (omega arith) (at .loop .inv .1) (c .before .before .four-rows .ensures))
+
+mul-q-2 : tie.Need-mul-q-2 Inv-loop μ-loop
+mul-q-2 c =
+    let at = c .before in
+    let g = at .before .before .args in
+    let h = rows-le (at .loop .i) (g .nr - at .loop .i) (g .nr) (g .cc) (omega arith) in
+    omega arith
+
+add-few-rows : tie.Need-add-few-rows Inv-loop μ-loop
+add-few-rows c =
+    let at = c .before .before in
+    let g = at .before .before .args in
+    let h = rows-le (at .loop .i) (g .nr - at .loop .i) (g .nr) (g .cc) (omega arith) in
+    omega arith
+
+add-few-rows-2 : tie.Need-add-few-rows-2 Inv-loop μ-loop
+add-few-rows-2 c =
+    let at = c .before .before in
+    let g = at .before .before .args in
+    let h = rows-le (at .loop .i) (g .nr - at .loop .i) (g .nr) (g .cc) (omega arith) in
+    omega arith
+
+sub-few-rows : tie.Need-sub-few-rows Inv-loop μ-loop
+sub-few-rows c = omega arith
+
+few-rows-requires : tie.Need-few-rows-requires Inv-loop μ-loop
+few-rows-requires c κs =
+    let at = c .before .before in
+    let g = at .before .before .args in
+    let h = rows-le (at .loop .i) (g .nr - at .loop .i) (g .nr) (g .cc) (omega arith) in
+    record { room = omega arith; width = omega arith; left = omega arith; fits = omega arith; right = omega arith }
+
+same-length : tie.Need-same-length Inv-loop μ-loop
+same-length c = omega arith
+
+returns : tie.Need-returns Inv-loop μ-loop
+returns c =
+    let at = c .before .before .before .before .before in
+    let i = at .loop .i in
+    let nr = at .before .before .args .nr in
+    let e : i + (nr - i) ≡ nr = omega arith in
+    rw e at (sums-more (at .before .before .pre) i (nr - i) (omega arith) (at .loop .inv .1) (c .before .before .few-rows .ensures) .is)
+
+pub entry-row-spec : {M : Type 1} → statement M
+entry-row-spec =
+    tie.close
+    (tie.spec
+    Inv-loop
+    μ-loop
+    loop-holds
+    sub-loop
+    mul-q
+    add-four-rows
+    add-four-rows-2
+    four-rows-requires
+    add-i
+    loop-less
+    loop-again
+    mul-q-2
+    add-few-rows
+    add-few-rows-2
+    sub-few-rows
+    few-rows-requires
+    same-length
+    returns)

@@ -1,0 +1,115 @@
+-- `gram_panels::few_rows` meets its contract. The invariant: the sums are those after i rows of the panels. Assumes nothing.
+use mathlib.Core.Path.{_≡_, refl, sym, ap, _∙_}
+use mathlib.Core.List.{List}
+use Prim.Native.Nat.{ℕ, _-_, _≤_}
+use native.Mathlib.Nat.{add-zero, zero-mul}
+use native.Mathlib.Omega.{arith}
+use lib.Ieee.{Float, nan}
+use Rattle.numbers.specs.Ops.{_⊕_, _⊗_}
+use Rattle.arrays.specs.Part.{part, put, tab, tab-ext, getD-part}
+use Rattle.arrays.specs.Sums.{_!_, fold-none, fold-turn}
+use Rattle.arrays.specs.Vectors.{zipOf}
+use Rattle.arrays.proofs.Turns.{Made}
+use Rattle.gram_panels.specs.Panels.{sumAt}
+use Rattle.gram_panels.proofs.Mats.{row-le}
+use Rattle.gram_panels.proofs.Sums.{sums-none, sums-more}
+use Rattle.gram_panels.proofs.few_rows.Statement.{statement}
+use Rattle.gram_panels.proofs.few_rows.Tie as tie
+
+-- what `add_scaled` makes is one row
+one : (s : List Float) (at w l r cc : ℕ) → zipOf (λ (v u : Float). v ⊕ s ! l ⊗ u) w (part s at w) (part s r w) ≡ tab (sumAt s at l r cc 1) w
+unfolding zipOf sumAt
+one s at w l r cc =
+    tab-ext _ _ w (λ b m.
+    fold-turn _ _ _ 0 _ _ (getD-part s at w b nan m ∙ sym (fold-none _ _ _)) (rw (getD-part s r w b nan m, zero-mul, add-zero l, add-zero r)))
+
+abbrev Inv-loop : tie.InvT-loop
+Inv-loop s₀ at w l r cc nr i₀ s i = (i ≤ nr) × Made s₀ at w (sumAt s₀ at l r cc i) s w
+
+abbrev μ-loop : tie.MeasureT-loop
+μ-loop s₀ at w l r cc nr i₀ s i = nr - i
+
+loop-holds : tie.Need-loop-holds Inv-loop μ-loop
+loop-holds c = (omega arith, sums-none (c .before .pre))
+
+mul-q : tie.Need-mul-q Inv-loop μ-loop
+mul-q c =
+    let at = c .before in
+    let g = at .before .before .args in
+    let h = row-le (at .loop .i) (g .nr) (g .cc) (omega arith) in
+    omega arith
+
+add-v : tie.Need-add-v Inv-loop μ-loop
+add-v c =
+    let at = c .before in
+    let g = at .before .before .args in
+    let h = row-le (at .loop .i) (g .nr) (g .cc) (omega arith) in
+    omega arith
+
+mul-v : tie.Need-mul-v Inv-loop μ-loop
+mul-v c =
+    let at = c .before in
+    let g = at .before .before .args in
+    let h = row-le (at .loop .i) (g .nr) (g .cc) (omega arith) in
+    omega arith
+
+slice-read-v : tie.Need-slice-read-v Inv-loop μ-loop
+slice-read-v c =
+    let at = c .before .before in
+    let g = at .before .before .args in
+    let h = row-le (at .loop .i) (g .nr) (g .cc) (omega arith) in
+    omega arith
+
+add-add-scaled : tie.Need-add-add-scaled Inv-loop μ-loop
+add-add-scaled c =
+    let at = c .before .before .before in
+    let g = at .before .before .args in
+    let h = row-le (at .loop .i) (g .nr) (g .cc) (omega arith) in
+    omega arith
+
+add-scaled-requires : tie.Need-add-scaled-requires Inv-loop μ-loop
+add-scaled-requires c κs =
+    let at = c .before .before .before in
+    let g = at .before .before .args in
+    let h = row-le (at .loop .i) (g .nr) (g .cc) (omega arith) in
+    record { room = omega arith; first = omega arith; second = omega arith; clear = λ _ _. refl; clear2 = λ l k. absurd (omega arith) }
+
+add-i : tie.Need-add-i Inv-loop μ-loop
+add-i c = omega arith
+
+loop-less : tie.Need-loop-less Inv-loop μ-loop
+loop-less c = omega arith
+
+loop-again : tie.Need-loop-again Inv-loop μ-loop
+loop-again c =
+    let at = c .before .before .before .before .before .before in
+    let made = c .before .before .add-scaled .ensures in
+    (omega arith, sums-more (at .before .before .pre) (at .loop .i) 1 (omega arith) (at .loop .inv .1) (made ∙ ap (put _ _) (one _ _ _ _ _ _)))
+
+same-length : tie.Need-same-length Inv-loop μ-loop
+same-length c = omega arith
+
+returns : tie.Need-returns Inv-loop μ-loop
+returns c =
+    let at = c .before in
+    let e : at .loop .i ≡ at .before .before .args .nr = omega arith in
+    rw e at (at .loop .inv .1 .is)
+
+pub few-rows-spec : {M : Type 1} → statement M
+few-rows-spec =
+    tie.close
+    (tie.spec
+    Inv-loop
+    μ-loop
+    loop-holds
+    mul-q
+    add-v
+    mul-v
+    slice-read-v
+    add-add-scaled
+    add-scaled-requires
+    add-i
+    loop-less
+    loop-again
+    same-length
+    returns)

@@ -1,0 +1,7 @@
+pub mod Checks
+mod Keeping
+mod Turning
+mod Looping
+mod Running
+mod Outcomes
+pub mod LoneSolver

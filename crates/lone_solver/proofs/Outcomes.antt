@@ -1,0 +1,23 @@
+-- The two ways out of a call of the lone solver. Assumes nothing.
+use mathlib.Core.Path.{_≡_, ap, _∙_}
+use mathlib.Core.List.{List}
+use Prim.Native.Nat.{ℕ}
+use lib.ListN.{length}
+use lib.Ieee.{Float}
+use Rattle.refusal.specs.declared.Refusal.{Refusal}
+use Rattle.refusal.specs.declared.Checked.{Checked}
+use Rattle.refusal.specs.declared.Checked.the-variants.{Fine, Bad}
+use Rattle.lone_solver.specs.declared.Answer.{Answer}
+use Rattle.lone_solver.specs.declared.Answer.the-variants.{Solved}
+use Rattle.lone_solver.specs.Solve.{Result, Outcome.outcome, checked, solved, finished, refusedOf, solveOf, Ran}
+
+module _ (n : ℕ) (a b x : List Float) (tol : Float) (limit : ℕ) (s : List Float) where
+  pub refuses : (k : Checked) (r : Refusal) (o : Answer) → k ≡ checked n a b x tol limit (length s) → k ≡ Bad r → o ≡ refusedOf k
+      → outcome o x s ≡ solveOf n a b x tol limit s
+  unfolding solveOf
+  refuses k r o e t q = rw (← e, q, t)
+
+  pub solves : (k : Checked) (err : Float) (x′ s′ : List Float) → k ≡ checked n a b x tol limit (length s) → k ≡ Fine
+      → Ran n (solved n a b x tol limit) s err x′ s′ → outcome (Solved err) x′ s′ ≡ solveOf n a b x tol limit s
+  unfolding solveOf
+  solves k err x′ s′ e t o = rw (← e, t) (ap (outcome (Solved err) x′) (o .left) ∙ ap (λ (r : Result). finished n r s) (o .is))

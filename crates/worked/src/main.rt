@@ -1,0 +1,295 @@
+// Each entry point once, on numbers that can be followed by hand; the README quotes what this prints.
+use elastic_net::Answer;
+use elastic_net::Started;
+use elastic_net::Way;
+use elastic_net::resume;
+use elastic_net::start;
+use lone_solver::solve;
+use numbers::bits::bits_of;
+use prediction::Predicted;
+use prediction::predict;
+use refusal::Refusal;
+use refusal::number;
+use refusal::place;
+use settings::Settings;
+use sheet::Read;
+use sheet::read_sheet;
+use stages::Counts;
+use stages::Paused;
+use whole_fit::fit;
+
+fn main() {
+    in_budgets();
+    whole();
+    predictions();
+    solver();
+    sheet_bytes();
+}
+
+fn settings() -> Settings {
+    Settings {
+        alpha: 0.01,
+        l1_ratio: 0.5,
+        tol: 0.0001,
+        rounds: 100,
+        panel_rows: 256,
+        panel_cols: 32,
+        normalise: true,
+        lazy: false,
+    }
+}
+
+fn in_budgets() {
+    let x = [1.0, 0.0, 0.0, 1.0, 1.0, 1.0, 2.0, 1.0];
+    let y = [1.0, 2.0, 3.0, 4.0];
+    let mut scratch = [0.0; 120];
+    match start(4, 2, &x, &y, settings(), &mut scratch) {
+        Started::Ready(record) => three_calls(&x, &y, scratch, record),
+        Started::Refused(r) => refused(r),
+    }
+}
+
+// Between two calls a fit is its record and its scratch.
+fn three_calls(x: &[f64], y: &[f64], memory: [f64; 120], fresh: Paused) {
+    let mut scratch = memory;
+    let mut weights = [0.0; 2];
+    let r = resume(
+        4,
+        2,
+        x,
+        y,
+        settings(),
+        fresh,
+        &mut scratch,
+        &mut weights,
+        20,
+    );
+    let a = r.answer;
+    answered(a, weights[0], weights[1]);
+    let record = r.paused;
+    let r = resume(
+        4,
+        2,
+        x,
+        y,
+        settings(),
+        record,
+        &mut scratch,
+        &mut weights,
+        20,
+    );
+    let a = r.answer;
+    answered(a, weights[0], weights[1]);
+    let record = r.paused;
+    let r = resume(
+        4,
+        2,
+        x,
+        y,
+        settings(),
+        record,
+        &mut scratch,
+        &mut weights,
+        20,
+    );
+    let a = r.answer;
+    answered(a, weights[0], weights[1]);
+}
+
+fn whole() {
+    let x = [1.0, 0.0, 0.0, 1.0, 1.0, 1.0, 2.0, 1.0];
+    let y = [1.0, 2.0, 3.0, 4.0];
+    let mut scratch = [0.0; 120];
+    let mut weights = [0.0; 2];
+    let r = fit(4, 2, &x, &y, settings(), &mut scratch, &mut weights);
+    let a = r.answer;
+    answered(a, weights[0], weights[1]);
+}
+
+fn predictions() {
+    let x = [3.0, 1.0, 0.0, 2.0];
+    let w = [0.5, 0.25];
+    let mut out = [0.0; 2];
+    match predict(2, 2, &x, &w, 1.0, &mut out) {
+        Predicted::Done => two(b"predicted", out[0], out[1]),
+        Predicted::Refused(r) => refused(r),
+    }
+}
+
+// The second call is refused: a limit of 0.
+fn solver() {
+    let a = [25.0, 15.0, -5.0, 15.0, 18.0, 0.0, -5.0, 0.0, 11.0];
+    let b = [40.0, 51.0, 28.0];
+    let mut x = [0.0; 3];
+    let mut scratch = [0.0; 24];
+    let r = solve(3, &a, &b, &mut x, 0.000001, 10, &mut scratch);
+    solved(r, x[0], x[1], x[2]);
+    let r = solve(3, &a, &b, &mut x, 0.000001, 0, &mut scratch);
+    solved(r, x[0], x[1], x[2]);
+}
+
+// The pairs are (1, 1) and (3, 2), the rows 0 and 1: a claim number is never a position.
+fn sheet_bytes() {
+    let bytes: [u8; 78] = [
+        1,
+        0,
+        0,
+        0,
+        73,
+        0,
+        2,
+        0,
+        1,
+        0x3f,
+        0xf0,
+        0,
+        0,
+        0,
+        0,
+        0,
+        0,
+        0x3f,
+        0xf0,
+        0,
+        0,
+        0,
+        0,
+        0,
+        0,
+        0x3f,
+        0xe0,
+        0,
+        0,
+        0,
+        0,
+        0,
+        0,
+        0,
+        0,
+        0,
+        0,
+        0,
+        0,
+        1,
+        0,
+        1,
+        0x3f,
+        0xf0,
+        0,
+        0,
+        0,
+        0,
+        0,
+        0,
+        0x3f,
+        0xf0,
+        0,
+        0,
+        0,
+        0,
+        0,
+        0,
+        0,
+        3,
+        0,
+        2,
+        0x40,
+        0,
+        0,
+        0,
+        0,
+        0,
+        0,
+        0,
+        0x40,
+        8,
+        0,
+        0,
+        0,
+        0,
+        0,
+        0,
+    ];
+    let mut x = [0.0; 2];
+    let mut y = [0.0; 2];
+    match read_sheet(&bytes, 32, 8, &mut x, &mut y) {
+        Read::Sheet(_) => {
+            two(b"features", x[0], x[1]);
+            two(b"scores", y[0], y[1]);
+        }
+        Read::Refused(r) => refused(r),
+    }
+}
+
+fn answered(a: Answer, w0: f64, w1: f64) {
+    match a {
+        Answer::Pending => {
+            io::write_all(1, b"pending\n");
+        }
+        Answer::Done(intercept, way, c) => {
+            told(way);
+            counts(c);
+            one(b"intercept", intercept);
+            io::write_all(1, b"\n");
+            two(b"weights", w0, w1);
+        }
+        Answer::Refused(r) => refused(r),
+    }
+}
+
+fn told(w: Way) {
+    match w {
+        Way::Converged => {
+            io::write_all(1, b"converged");
+        }
+        Way::Limit => {
+            io::write_all(1, b"limit");
+        }
+    }
+}
+
+fn counts(c: Counts) {
+    let n = c.rounds;
+    let b = c.solver;
+    let t = c.trials;
+    io::write_all(1, b", rounds ");
+    io::print_decimal(1, n.0);
+    io::write_all(1, b" solver ");
+    io::print_decimal(1, b.0);
+    io::write_all(1, b" trials ");
+    io::print_decimal(1, t.0);
+    io::write_all(1, b"\n");
+}
+
+fn solved(a: lone_solver::Answer, x0: f64, x1: f64, x2: f64) {
+    match a {
+        lone_solver::Answer::Solved(error) => {
+            one(b"solved", x0);
+            one(b"", x1);
+            one(b"", x2);
+            one(b", error", error);
+            io::write_all(1, b"\n");
+        }
+        lone_solver::Answer::Refused(r) => refused(r),
+    }
+}
+
+fn two(name: &[u8], a: f64, b: f64) {
+    one(name, a);
+    one(b"", b);
+    io::write_all(1, b"\n");
+}
+
+fn one(name: &[u8], a: f64) {
+    io::write_all(1, name);
+    io::write_all(1, b" ");
+    io::print_hex(1, bits_of(a), 16);
+}
+
+fn refused(r: Refusal) {
+    io::write_all(1, b"refused ");
+    io::print_decimal(1, number(r));
+    io::write_all(1, b" at ");
+    io::print_decimal(1, place(r) as u64);
+    io::write_all(1, b"\n");
+}

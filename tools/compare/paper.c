@@ -1,0 +1,174 @@
+// A sheet is written whole, then none, one or several things are done to it.
+#include <string.h>
+
+#include "paper.h"
+
+enum { CLAIMS = 999, ALL_PAIRS = CLAIMS * CLAIMS, HEAD = 38 };
+
+static void put(uint8_t *to, u64 value, int count) {
+    while (count--) to[count] = (uint8_t)value, value >>= 8;
+}
+
+static u64 size_of(u64 n, u64 p) { return HEAD + n * (12 + 8 * p); }
+
+static uint8_t *row_of(struct paper *a, u64 i) { return a->bytes + size_of(i, a->p); }
+
+static void put_length(struct paper *a) { put(a->bytes + 1, a->length - 5, 4); }
+
+// What is added is random: a sheet depends on its seed and number alone.
+static void resize(struct paper *a, size_t to) {
+    for (size_t i = a->length; i < to; i++) a->bytes[i] = (uint8_t)word();
+    a->length = to;
+}
+
+// ---- whole sheets
+
+static void put_pair(uint8_t *row, u64 pair) { put(row, 1 + pair / CLAIMS, 2), put(row + 2, 1 + pair % CLAIMS, 2); }
+
+// Pairs rise by steps that leave room for all; with small steps many share their source.
+static void write_rows(struct paper *a) {
+    u64 most = ALL_PAIRS / (a->n ? a->n : 1), pair = 0, odd = below(2);
+    if (most > 3 && below(2)) most = 3;
+    for (u64 i = 0; i < a->n; i++) {
+        uint8_t *row = row_of(a, i);
+        pair += (i > 0) + (i ? below(most) : below(2) * below(most));
+        put_pair(row, pair);
+        for (u64 j = 0; j <= a->p; j++) put(row + 4 + 8 * j, odd ? any_float() : bits_of(4.0 * unit() - 2.0), 8);
+    }
+    if (a->n && rarely()) put_pair(row_of(a, a->n - 1), ALL_PAIRS - 1);
+}
+
+static void write_sheet(struct paper *a, u64 n, u64 p) {
+    a->n = n, a->p = p, a->length = size_of(n, p);
+    a->bytes[0] = 1;
+    put_length(a);
+    put(a->bytes + 5, n, 2), put(a->bytes + 7, p, 2);
+    for (int i = 0; i < 3; i++) put(a->bytes + 9 + 8 * i, any_float(), 8);
+    put(a->bytes + 33, beside(1000), 4);
+    a->bytes[37] = (uint8_t)below(4);
+    write_rows(a);
+}
+
+static void whole(struct paper *a) {
+    static const u64 bounds[][2] = {{4096, 64}, {4096, 1}, {1, 64}, {4097, 1}, {1, 65}, {4096, 65}, {4097, 64}, {0, 0}, {0, 1}, {0, 65535}, {1, 0}, {65535, 0}, {1, 65535}};
+    if (below(60) == 0) {
+        const u64 *sizes = bounds[below(sizeof bounds / sizeof *bounds)];
+        write_sheet(a, sizes[0], sizes[1]);
+    } else write_sheet(a, below(20) ? between(1, 12) : below(300), below(20) ? between(1, 5) : below(70));
+}
+
+// ---- damage
+
+// Cut or longer; sometimes the length field agrees, so that only n and p tell.
+static void other_length(struct paper *a) {
+    static const size_t near[] = {0, 1, 4, 5, 6, 37, 38, 39};
+    size_t to = near[below(8)];
+    if (below(2)) to = below(a->length + 1);
+    if (below(3) == 0) to = a->length + between(1, 40);
+    if (below(4) == 0) to = below(2) ? a->length + 8 : a->length - (a->length ? 1 : 0);
+    resize(a, to);
+    if (to >= 5 && below(2)) put_length(a);
+}
+
+static void other_length_field(struct paper *a) {
+    u64 rest = a->length - 5;
+    switch (below(8)) {
+    case 0: rest = 0; break;
+    case 1: rest = 33; break;
+    case 2: rest = UINT32_MAX; break;
+    case 3: rest ^= (u64)1 << below(32); break;
+    case 4: rest = __builtin_bswap32((uint32_t)rest); break;
+    case 5: rest = word(); break;
+    default: rest += below(2) ? 1 : -1;
+    }
+    put(a->bytes + 1, rest, 4);
+}
+
+// Another n or p; sometimes the length field or the length itself follows.
+static void other_size(struct paper *a) {
+    static const u64 odd[] = {0, 1, 64, 65, 255, 256, 4096, 4097, 32768, 65535};
+    u64 sizes[] = {a->n, a->p}, which = below(2);
+    sizes[which] = below(2) ? odd[below(10)] : below(2) ? sizes[which] + 1 : sizes[which] - 1;
+    put(a->bytes + 5 + 2 * which, sizes[which], 2);
+    u64 due = size_of(sizes[0] & 65535, sizes[1] & 65535);
+    if (below(2)) put(a->bytes + 1, due - 5, 4);
+    if (below(2) && due <= MOST_BYTES) resize(a, due);
+}
+
+// A claim number that is none, or a pair that does not rise.
+static void other_claim(struct paper *a) {
+    static const u64 odd[] = {0, 1, 999, 1000, 1001, 32768, 65535, 256};
+    if (!a->n) return;
+    u64 i = below(a->n), j = below(a->n);
+    uint8_t *row = row_of(a, i), *before = row_of(a, i ? i - 1 : 0), *other = row_of(a, j), kept[4];
+    switch (below(6)) {
+    case 0: put(row + 2 * below(2), odd[below(8)], 2); break;
+    case 1: put(row + 2 * below(2), word(), 2); break;
+    case 2: memmove(row, before, 4); break;
+    case 3: memmove(row, before, 4), row[3] += below(2) ? 1 : -1; break;
+    case 4: memmove(row + 2 * below(2), before + 2 * below(2), 2); break;
+    default: memcpy(kept, row, 4), memmove(row, other, 4), memcpy(other, kept, 4);
+    }
+}
+
+// No refusal of the reader's: any number is carried over.
+static void other_number(struct paper *a) {
+    static const u64 odd[] = {0x7ff0000000000000, 0xfff0000000000000, 0x7ff8000000000000, 0xfff8000000000000, 0x7ff0000000000001, 0xffffffffffffffff, 0xfff4000000000000};
+    u64 value = below(2) ? odd[below(7)] : any_float();
+    if (a->n && below(3)) put(row_of(a, below(a->n)) + 4 + 8 * below(a->p + 1), value, 8);
+    else put(a->bytes + 9 + 8 * below(3), value, 8);
+}
+
+static void damage(struct paper *a) {
+    switch (below(11)) {
+    case 0: other_length(a); break;
+    case 1: other_length_field(a); break;
+    case 2: other_size(a); break;
+    case 3: a->bytes[0] = (uint8_t)(below(2) ? below(4) : word()); break;
+    case 4: a->bytes[37] = (uint8_t)(below(2) ? beside(3) : word()); break;
+    case 5: other_number(a); break;
+    case 6: a->bytes[below(HEAD)] ^= 1 << below(8); break;
+    case 7:
+        if (a->length) a->bytes[below(a->length)] ^= 1 << below(8);
+        break;
+    default: other_claim(a);
+    }
+}
+
+// ---- other bytes
+
+static void random_bytes(struct paper *a) {
+    u64 n = below(4), p = below(4);
+    a->length = 0;
+    resize(a, below(2) ? size_of(n, p) : below(8) ? below(200) : below(4000));
+    if (below(4)) a->bytes[0] = 1;
+    if (below(4) && a->length >= 5) put_length(a);
+    if (below(4)) put(a->bytes + 5, n, 2), put(a->bytes + 7, p, 2);
+    if (below(2)) a->bytes[37] &= 3;
+}
+
+// n(12+8p) = 4n(3+2p) a little above a multiple of 2^32, and bytes as many as its low 32 bits say: who counts in these finds the length right.
+static void wrapped(struct paper *a) {
+    u64 low = below(1000), product = (between(1, 7) << 30) + low, n = product / 131073 + 1;
+    while (n < 65536 && (product % n || product / n % 2 == 0)) n++;
+    if (n == 65536) {
+        wrapped(a);
+        return;
+    }
+    write_sheet(a, between(1, 40), between(1, 9));
+    resize(a, HEAD + 4 * low);
+    put_length(a);
+    put(a->bytes + 5, n, 2), put(a->bytes + 7, (product / n - 3) / 2, 2);
+}
+
+void draw(struct paper *a) {
+    static const int faults[] = {0, 0, 1, 1, 1, 2, 3};
+    switch (below(32)) {
+    case 0:
+    case 1: random_bytes(a); break;
+    case 2: wrapped(a); break;
+    default:
+        whole(a);
+        for (int left = faults[below(7)]; left; left--) damage(a);
+    }
+}
