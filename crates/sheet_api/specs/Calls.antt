@@ -4,13 +4,13 @@ use mathlib.Core.List.{List, [], _∷_}
 use Prim.Native.Nat.{ℕ}
 use lib.Dec.{eqb}
 use lib.ListN.{length}
-use lib.Ieee.{Float, binary64, toBits}
+use lib.Ieee.{Float}
 use Rattle.refusal.specs.Refusal.{numberOf, placeOf}
 use Rattle.sheet.specs.declared.Header.{Header}
 use Rattle.sheet.specs.declared.Read.{Read}
 use Rattle.sheet.specs.declared.Read.the-variants.{Sheet, Refused}
 use Rattle.sheet.specs.Sheet.{Outcome, outcome, sheetOf, headerRead}
-use Rattle.c_values.specs.Values.{truthWord}
+use Rattle.c_values.specs.Values.{truthWord, bits}
 
 -- the number of a refusal, or 0; the header's words, the place's word, matrix and targets
 pub data Called : Type 0 where
@@ -20,7 +20,7 @@ pub data Called : Type 0 where
 unfoldable pub headerWords : Header → List ℕ
 headerWords h =
     let s = h .settings in
-    h .n ∷ h .p ∷ toBits binary64 (s .alpha) ∷ toBits binary64 (s .«l1_ratio») ∷ toBits binary64 (s .tol) ∷ s .rounds ∷ s .«panel_rows» ∷ s .«panel_cols»
+    h .n ∷ h .p ∷ bits (s .alpha) ∷ bits (s .«l1_ratio») ∷ bits (s .tol) ∷ s .rounds ∷ s .«panel_rows» ∷ s .«panel_cols»
     ∷ truthWord (s .normalise) ∷ truthWord (s .lazy) ∷ []
 
 abbrev pub numberIn : Read → ℕ

@@ -1,4 +1,4 @@
-// Each entry point once, on numbers that can be followed by hand; the README quotes what this prints.
+// start, resume, fit, predict, solve and read_sheet once each, on numbers that can be followed by hand; the README quotes what this prints.
 use elastic_net::Answer;
 use elastic_net::Started;
 use elastic_net::Way;
