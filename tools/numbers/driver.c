@@ -1,7 +1,8 @@
-// driver COUNT: standard input has, each 8 bytes, COUNT arguments of a root, COUNT arguments of a logarithm and the COUNT answers of the latter.
-// Our root is held to the platform's sqrt and our logarithm to those answers, bit for bit, with every NaN as one; a NaN of ours must be 7ff8000000000000.
+// driver COUNT: standard input has, each 8 bytes, COUNT arguments of a root, COUNT arguments of a logarithm and the COUNT answers of the latter, then the
+// COUNT left and the COUNT right arguments of a maximum and a minimum. Our root is held to the platform's sqrt, our logarithm to those answers, our maximum and
+// minimum to 01's rule in C's comparisons, bit for bit, with every NaN as one; a NaN of ours must be 7ff8000000000000.
+#include <inttypes.h>
 #include <math.h>
-#include <stdint.h>
 #include <stdio.h>
 #include <stdlib.h>
 
@@ -9,6 +10,8 @@
 
 extern double root(double);
 extern double ln(double);
+extern double maximum(double, double);
+extern double minimum(double, double);
 
 static long nans, other;
 
@@ -21,16 +24,33 @@ static uint64_t *words(long count) {
     return all;
 }
 
-// 1 if they differ; the first ten of each kind are shown
-static long differ(const char *name, long so_far, uint64_t argument, double ours, double theirs) {
+// 1 if the values at x, or at x and y, differ; the first ten of each kind are shown
+static long differ(const char *name, long so_far, const uint64_t *x, const uint64_t *y, double ours, double theirs) {
     uint64_t a = bits_of(ours), b = bits_of(theirs);
     if (isnan(ours)) {
         nans++;
         if (a != 0x7ff8000000000000) other++;
     }
     if (a == b || (isnan(ours) && isnan(theirs))) return 0;
-    if (so_far < 10) fprintf(stderr, "%s of %016llx: %016llx, not %016llx\n", name, (unsigned long long)argument, (unsigned long long)a, (unsigned long long)b);
+    if (so_far < 10) {
+        fprintf(stderr, "%s of %016" PRIx64, name, *x);
+        if (y) fprintf(stderr, " and %016" PRIx64, *y);
+        fprintf(stderr, ": %016" PRIx64 ", not %016" PRIx64 "\n", a, b);
+    }
     return 1;
+}
+
+// A NaN is skipped if the other value is none; of +0 and -0 the maximum is +0 and the minimum is -0.
+static double larger(double x, double y) {
+    if (isnan(x) || isnan(y)) return isnan(y) ? x : y;
+    if (x == 0 && y == 0) return signbit(x) && signbit(y) ? -0.0 : 0.0;
+    return isgreater(x, y) ? x : y;
+}
+
+static double smaller(double x, double y) {
+    if (isnan(x) || isnan(y)) return isnan(y) ? x : y;
+    if (x == 0 && y == 0) return signbit(x) || signbit(y) ? -0.0 : 0.0;
+    return isless(x, y) ? x : y;
 }
 
 int main(int argc, char **argv) {
@@ -39,15 +59,21 @@ int main(int argc, char **argv) {
         fprintf(stderr, "usage: driver COUNT\n");
         return 2;
     }
-    uint64_t *roots = words(count), *logarithms = words(count), *answers = words(count);
-    long roots_differ = 0, logarithms_differ = 0;
+    uint64_t *roots = words(count), *logarithms = words(count), *answers = words(count), *left = words(count), *right = words(count);
+    long roots_differ = 0, logarithms_differ = 0, maxima_differ = 0, minima_differ = 0;
     for (long i = 0; i < count; i++) {
         double x = of_bits(roots[i]);
-        roots_differ += differ("root", roots_differ, roots[i], root(x), sqrt(x));
+        roots_differ += differ("root", roots_differ, roots + i, NULL, root(x), sqrt(x));
     }
     for (long i = 0; i < count; i++) {
-        logarithms_differ += differ("ln", logarithms_differ, logarithms[i], ln(of_bits(logarithms[i])), of_bits(answers[i]));
+        logarithms_differ += differ("ln", logarithms_differ, logarithms + i, NULL, ln(of_bits(logarithms[i])), of_bits(answers[i]));
     }
-    printf("%ld roots: %ld differ; %ld logarithms: %ld differ; NaN patterns: %ld other of %ld\n", count, roots_differ, count, logarithms_differ, other, nans);
-    return roots_differ || logarithms_differ || other;
+    for (long i = 0; i < count; i++) {
+        double x = of_bits(left[i]), y = of_bits(right[i]);
+        maxima_differ += differ("maximum", maxima_differ, left + i, right + i, maximum(x, y), larger(x, y));
+        minima_differ += differ("minimum", minima_differ, left + i, right + i, minimum(x, y), smaller(x, y));
+    }
+    printf("%ld roots: %ld differ; %ld logarithms: %ld differ; ", count, roots_differ, count, logarithms_differ);
+    printf("%ld maxima: %ld differ; %ld minima: %ld differ; NaN patterns: %ld other of %ld\n", count, maxima_differ, count, minima_differ, other, nans);
+    return roots_differ || logarithms_differ || maxima_differ || minima_differ || other;
 }

@@ -1,4 +1,4 @@
-"""Bit patterns of binary64 by which a root and a logarithm are tried. A pattern is an int below 2^64."""
+"""Bit patterns of binary64 by which a root, a logarithm, a maximum and a minimum are tried. A pattern is an int below 2^64."""
 
 FIELD = 1 << 52
 SIGN = 1 << 63
@@ -44,6 +44,22 @@ def pattern(digits, exponent):
 
 def power(exponent):
     return pattern(FIELD, exponent)
+
+
+def any_nan(random):
+    """Of either sign, quiet or signalling, with payloads of every length."""
+    w = random.word()
+    quiet = w >> 62 & 1
+    payload = (w & FIELD - 1) >> 1 + random.below(52)
+    return w & SIGN | INFINITY | quiet << 51 | (payload or 1 - quiet)
+
+
+def any_number(random):
+    """No NaN, of either sign; one in four is a zero or an infinity."""
+    w = random.word()
+    if random.below(4) == 0:
+        return w & SIGN | (INFINITY if w & 1 else 0)
+    return w & ~INFINITY if is_nan(w) else w
 
 
 def at_threshold(random, exponent):

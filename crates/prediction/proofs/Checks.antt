@@ -2,13 +2,13 @@
 use mathlib.Core.Path.{_≡_, refl, sym, _∙_}
 use mathlib.Core.Bool.{Bool, true, false, _&&_}
 use mathlib.Core.List.{List, [], _∷_, _++_}
-use Prim.Native.Nat.{ℕ, _+_, _*_, _≤_}
+use Prim.Native.Nat.{ℕ, _+_, _*_}
 use native.Mathlib.Nat.{zero-add}
-use lib.Dec.{leb, eqb}
+use lib.Dec.{eqb}
 use lib.ListN.{length, length-append}
 use lib.Ieee.{Float}
 use lib.Ieee.Scale.{finite}
-use borrow.Author.Tests.{leb-true, eqb-true, le-leb, eq-eqb}
+use borrow.Author.Tests.{eqb-true, eq-eqb}
 use Rattle.arrays.specs.Scan.{firstInfinite}
 use Rattle.arrays.specs.declared.scan.Found.{Found}
 use Rattle.arrays.specs.declared.scan.Found.the-variants.{Clean, At}
@@ -19,47 +19,28 @@ use Rattle.refusal.specs.declared.Checked.the-variants.{Fine, Bad}
 use Rattle.refusal.specs.Checks.{askValues, foundAt}
 use Rattle.refusal.proofs.Scanning.{orElse, further, scan-append, scan-from, FirstBad, scan-first}
 use Rattle.refusal.proofs.Asking.{refuted, both-true, ask-fine}
+use Rattle.refusal.proofs.Sizes.{InSize, size-test, size-good, size-of}
 use Rattle.prediction.specs.Predict.{valuesOf, checkedOf}
 
 -- ---- 1 and 2
-
-pub record InSize (n p : ℕ) : Type 0 where
-  pub some-rows : 1 ≤ n
-  pub rows : n ≤ 4096
-  pub some-columns : 1 ≤ p
-  pub columns : p ≤ 64
 
 pub record Lengths (n p : ℕ) (x w : List Float) (out : ℕ) : Type 0 where
   pub matrix : length x ≡ n * p
   pub weights : length w ≡ p
   pub predictions : out ≡ n
 
-module _ (n p : ℕ) where
-  abbrev size-test : Bool
-  size-test = leb 1 n && leb n 4096 && leb 1 p && leb p 64
+module _ (n p : ℕ) (x w : List Float) (out : ℕ) where
+  abbrev length-test : Bool
+  length-test = eqb (length x) (n * p) && eqb (length w) p && eqb out n
 
-  size-good : InSize n p → size-test ≡ true
-  size-good z = rw (le-leb 1 n (z .some-rows), le-leb n 4096 (z .rows), le-leb 1 p (z .some-columns), le-leb p 64 (z .columns))
+  length-good : Lengths n p x w out → length-test ≡ true
+  length-good l = rw (eq-eqb (length x) (n * p) (l .matrix), eq-eqb (length w) p (l .weights), eq-eqb out n (l .predictions))
 
-  size-of : size-test ≡ true → InSize n p
-  size-of h =
-      let t₁ = both-true _ _ h in
-      let t₂ = both-true _ _ (t₁ .0) in
-      let t₃ = both-true _ _ (t₂ .0) in
-      record { some-rows = leb-true _ _ (t₃ .0); rows = leb-true _ _ (t₃ .1); some-columns = leb-true _ _ (t₂ .1); columns = leb-true _ _ (t₁ .1) }
-
-  module _ (x w : List Float) (out : ℕ) where
-    abbrev length-test : Bool
-    length-test = eqb (length x) (n * p) && eqb (length w) p && eqb out n
-
-    length-good : Lengths n p x w out → length-test ≡ true
-    length-good l = rw (eq-eqb (length x) (n * p) (l .matrix), eq-eqb (length w) p (l .weights), eq-eqb out n (l .predictions))
-
-    length-of : length-test ≡ true → Lengths n p x w out
-    length-of h =
-        let t = both-true _ _ h in
-        let u = both-true _ _ (t .0) in
-        record { matrix = eqb-true _ _ (u .0); weights = eqb-true _ _ (u .1); predictions = eqb-true _ _ (t .1) }
+  length-of : length-test ≡ true → Lengths n p x w out
+  length-of h =
+      let t = both-true _ _ h in
+      let u = both-true _ _ (t .0) in
+      record { matrix = eqb-true _ _ (u .0); weights = eqb-true _ _ (u .1); predictions = eqb-true _ _ (t .1) }
 
 module _ (n p : ℕ) (x w : List Float) (b : Float) (out : ℕ) where
   pub bad-size : (InSize n p → ⊥) → checkedOf n p x w b out ≡ Bad Size

@@ -10,10 +10,11 @@ use Rattle.refusal.specs.declared.Refusal.the-variants.{Size, Length, NotFinite
 use Rattle.refusal.specs.declared.Checked.{Checked}
 use Rattle.refusal.specs.declared.Checked.the-variants.{Fine, Bad}
 use Rattle.refusal.proofs.Scanning.{FirstBad}
+use Rattle.refusal.proofs.Sizes.{InSize}
 use Rattle.prediction.specs.declared.Predicted.{Predicted}
 use Rattle.prediction.specs.declared.Predicted.the-variants.{Done, Refused}
 use Rattle.prediction.specs.Predict.{Outcome, Outcome.outcome, byCheck, checkedOf, predictedOf, predictOf, Said.refused, said}
-use Rattle.prediction.proofs.Checks.{InSize, Lengths, bad-size, bad-length, good-sizes, bad-value}
+use Rattle.prediction.proofs.Checks.{Lengths, bad-size, bad-length, good-sizes, bad-value}
 
 -- the contract of `predict`, for all input: it answers r, and leaves o′ where o was
 abbrev pub Predicts : ℕ → ℕ → List Float → List Float → Float → List Float → Predicted → List Float → Type 0

@@ -13,6 +13,13 @@ pub refuted : (t : Bool) → (t ≡ true → ⊥) → t ≡ false
 refuted true h = absurd (h refl)
 refuted false h = refl
 
+-- a test that holds where A does, and only there, decides A
+pub known-by : {A : Type 0} {t : Bool} → (t ≡ true → A) → (A → t ≡ true) → Dec A
+known-by {A} {t} of good = go t refl where
+  go : (u : Bool) → t ≡ u → Dec A
+  go true e = yes (of e)
+  go false e = no (λ a. opposed t e (good a))
+
 pub both-true : (p q : Bool) → p && q ≡ true → (p ≡ true) × (q ≡ true)
 both-true true q h = (refl, h)
 both-true false q h = absurd (opposed false refl h)

@@ -1,9 +1,10 @@
 -- 01's ranges of the settings, and gamma, padding and lambda in the Rust's order of operations. Definitions only.
 use Prim.Native.Nat.{ℕ, _≤_}
 use mathlib.Core.Path.{_≡_}
-use mathlib.Core.Bool.{Bool, true, cond, _&&_}
-use lib.Dec.{leb}
-use lib.Ieee.{Float, le}
+use mathlib.Core.Bool.{Bool, true, false, cond, _&&_}
+use lib.Dec.{T, leb}
+use lib.Ieee.{Float, le, isNan}
+use lib.Ieee.Scale.{finite}
 use Rattle.numbers.specs.Ops.{_⊕_, _⊖_, _⊗_, _⊘_, f64}
 use Rattle.numbers.specs.Order.{maximumOf}
 use Rattle.numbers.specs.Root.{rootOf}
@@ -32,6 +33,20 @@ unfoldable pub allowedOf : Settings → Bool
 allowedOf st =
     rangeOf (st .alpha) million && rangeOf (st .«l1_ratio») one && rangeOf (st .tol) largest && leb (st .rounds) 1000 && panelsOf st
 
+-- ---- the same in 01's words, as what holds and not as a test
+
+-- no NaN, and from 0, of either sign, to `top`
+pub record InRange (top x : Float) : Type 0 where
+  pub number : isNan x ≡ false
+  pub least : T (le (f64 0) x)
+  pub most : T (le x top)
+
+-- no NaN, finite, and at least 0
+pub record FiniteRange (x : Float) : Type 0 where
+  pub number : isNan x ≡ false
+  pub finite : finite x ≡ true
+  pub least : T (le (f64 0) x)
+
 -- the bounds on R and C where lazy
 pub record Panels (st : Settings) : Type 0 where
   pub rows-least : 1 ≤ st .«panel_rows»
@@ -39,10 +54,26 @@ pub record Panels (st : Settings) : Type 0 where
   pub columns-least : 1 ≤ st .«panel_cols»
   pub columns-most : st .«panel_cols» ≤ 32
 
--- what the other crates take from the test: its bounds on numbers
+-- every setting is in its range
 pub record Allowed (st : Settings) : Type 0 where
+  pub alpha : InRange million (st .alpha)
+  pub ratio : InRange one (st .«l1_ratio»)
+  pub tol : FiniteRange (st .tol)
   pub rounds : st .rounds ≤ 1000
   pub panels : st .lazy ≡ true → Panels st
+
+-- the same settings with another R and C
+abbrev pub withPanels : ℕ → ℕ → Settings → Settings
+withPanels R C st = record {
+  alpha = st .alpha;
+  «l1_ratio» = st .«l1_ratio»;
+  tol = st .tol;
+  rounds = st .rounds;
+  «panel_rows» = R;
+  «panel_cols» = C;
+  normalise = st .normalise;
+  lazy = st .lazy;
+}
 
 -- l1_reg, l2_reg
 unfoldable pub l1Of : Settings → ℕ → Float

@@ -1,17 +1,25 @@
--- What the contract of `read_sheet` says: the outcome is one, a refusal writes nothing, and a sheet that passes every check is read. Assumes nothing.
-use mathlib.Core.Path.{_≡_, sym, ap, _∙_}
+-- What the contracts of `read_header` and `read_sheet` say: which refusal for which sheet, that the outcome is one, that a refusal writes nothing, and that a sheet
+-- with no fault is read. Assumes nothing.
+use mathlib.Core.Path.{_≡_, refl, sym, ap, _∙_}
+use mathlib.Core.Logic.{_⊎_, inl, inr}
 use mathlib.Core.List.{List}
-use Prim.Native.Nat.{ℕ}
+use Prim.Native.Nat.{ℕ, _≤_, _<_}
+use native.Mathlib.Decide.{ℕ-discrete, decLt}
 use native.Mathlib.Omega.{arith}
-use lib.ListN.{length}
+use lib.ListN.{length, getD}
 use lib.Ieee.{Float}
 use Rattle.refusal.specs.declared.Refusal.{Refusal}
+use Rattle.refusal.specs.declared.Refusal.the-variants.{Size, Length, Version, SheetLength, Flags, Claim, Pair}
 use Rattle.refusal.specs.declared.Checked.{Checked}
 use Rattle.refusal.specs.declared.Checked.the-variants.{Fine, Bad}
+use Rattle.refusal.proofs.Sizes.{InSize, size-known}
 use Rattle.sheet.specs.declared.Header.{Header}
 use Rattle.sheet.specs.declared.Read.{Read}
 use Rattle.sheet.specs.declared.Read.the-variants.{Sheet, Refused}
-use Rattle.sheet.specs.Sheet.{nOf, pOf, headerCheck, rowsFrom, roomCheck, headerOf, matrixOf, targetsOf, Outcome, Outcome.outcome, byCheck, sheetOf}
+use Rattle.sheet.specs.Sheet.{nOf, pOf, flagsOf, headerCheck, rowsFrom, roomCheck, headerOf, matrixOf, targetsOf, headerRead, Outcome, Outcome.outcome, byCheck, sheetOf, Said.refused, said}
+use Rattle.sheet.proofs.Checks.{Measured, Headed, Claims, Rises, RowsFine, BadRow, Lengths, measured-known, rows-known, lengths-known}
+use Rattle.sheet.proofs.Checks.{bad-start, bad-version, bad-measure, bad-flags, good-header, bad-claim, bad-pair, good-rows, bad-size, bad-length, good-room}
+use Rattle.sheet.proofs.Outcomes.{header-refused, bad-header, bad-row, bad-room, reads-all}
 
 -- the contract of `read_sheet`, for all input: it answers r, and leaves x′ and y′
 abbrev pub Reads : List ℕ → ℕ → ℕ → List Float → List Float → Read → List Float → List Float → Type 0
@@ -35,6 +43,28 @@ spared Fine Fine Fine h x y x₁ y₁ q x′ y′ e =
     let z : _≡_ {A = ℕ} 0 1 = cc in
     absurd (omega arith)
 
+-- ---- the header's refusals, in 01's order
+
+module _ (b : List ℕ) where
+  -- refusal k at place i is the first that holds
+  pub data HeaderRefusal : ℕ → ℕ → Type 0 where
+    short : length b < 5 → HeaderRefusal 12 0
+    version : 5 ≤ length b → (getD b 0 0 ≡ 1 → ⊥) → HeaderRefusal 11 0
+    measure : 5 ≤ length b → getD b 0 0 ≡ 1 → (Measured b → ⊥) → HeaderRefusal 12 0
+    flags : 5 ≤ length b → getD b 0 0 ≡ 1 → Measured b → 3 < flagsOf b → HeaderRefusal 13 0
+
+  header-told : {k i : ℕ} → HeaderRefusal k i → (q : Refusal) × (headerCheck b ≡ Bad q) × (said (Refused q) ≡ refused k i)
+  header-told (short h) = (SheetLength, bad-start b h, refl)
+  header-told (version s h) = (Version, bad-version b s h, refl)
+  header-told (measure s v h) = (SheetLength, bad-measure b s v h, refl)
+  header-told (flags s v m h) = (Flags, bad-flags b s v m h, refl)
+
+  -- 01's number and place are those of the first refusal that holds
+  pub first-header-refusal : (R C : ℕ) {r : Read} → r ≡ headerRead b R C → {k i : ℕ} → HeaderRefusal k i → said r ≡ refused k i
+  first-header-refusal R C c h =
+      let t = header-told h in
+      ap said (c ∙ sym (header-refused b R C (headerCheck b) refl (t .0) (Refused (t .0)) (t .1) refl)) ∙ t .2
+
 module _ (b : List ℕ) (R C : ℕ) (x y : List Float) where
   pub outcomes-coincide : {r q : Read} {x′ x″ y′ y″ : List Float} → Reads b R C x y r x′ y′ → Reads b R C x y q x″ y″ → (r ≡ q) × (x′ ≡ x″) × (y′ ≡ y″)
   outcomes-coincide c d =
@@ -46,7 +76,87 @@ module _ (b : List ℕ) (R C : ℕ) (x y : List Float) where
   refused-writes-nothing c =
       spared (headerCheck b) (rowsFrom b (pOf b) (nOf b) 0) (roomCheck (nOf b) (pOf b) (length x) (length y)) (headerOf b R C) x y _ _ _ _ _ c
 
-  pub well-formed-read : headerCheck b ≡ Fine → rowsFrom b (pOf b) (nOf b) 0 ≡ Fine → roomCheck (nOf b) (pOf b) (length x) (length y) ≡ Fine
-      → sheetOf b R C x y ≡ outcome (Sheet (headerOf b R C)) (matrixOf b (nOf b) (pOf b)) (targetsOf b (nOf b) (pOf b))
-  unfolding sheetOf
-  well-formed-read h r l = rw (h, r, l)
+  -- ---- all refusals, in 01's order
+
+  -- refusal k at place i is the first that holds
+  pub data FirstRefusal : ℕ → ℕ → Type 0 where
+    header : {k i : ℕ} → HeaderRefusal b k i → FirstRefusal k i
+    claim : Headed b → {i : ℕ} → i < nOf b → RowsFine b i → (Claims b i → ⊥) → FirstRefusal 14 i
+    pair : Headed b → {i : ℕ} → i < nOf b → RowsFine b i → Claims b i → (Rises b i → ⊥) → FirstRefusal 15 i
+    size : Headed b → RowsFine b (nOf b) → (InSize (nOf b) (pOf b) → ⊥) → FirstRefusal 1 0
+    lengths : Headed b → RowsFine b (nOf b) → InSize (nOf b) (pOf b) → (Lengths (nOf b) (pOf b) (length x) (length y) → ⊥) → FirstRefusal 2 0
+
+  -- none of them holds
+  pub record WellFormed : Type 0 where
+    pub header : Headed b
+    pub rows : RowsFine b (nOf b)
+    pub size : InSize (nOf b) (pOf b)
+    pub lengths : Lengths (nOf b) (pOf b) (length x) (length y)
+
+  abbrev Placed : Type 0
+  Placed = WellFormed ⊎ ((k : ℕ) × (i : ℕ) × FirstRefusal k i)
+
+  -- every sheet is in one row of the table, or in none
+  pub every-sheet : WellFormed ⊎ ((k : ℕ) × (i : ℕ) × FirstRefusal k i)
+  every-sheet = begins (decLt (length b) 5) where
+    longs : Headed b → RowsFine b (nOf b) → InSize (nOf b) (pOf b) → Dec (Lengths (nOf b) (pOf b) (length x) (length y)) → Placed
+    longs h f z (yes l) = inl (record { header = h; rows = f; size = z; lengths = l })
+    longs h f z (no l) = inr (2, 0, lengths h f z l)
+
+    sizes : Headed b → RowsFine b (nOf b) → Dec (InSize (nOf b) (pOf b)) → Placed
+    sizes h f (yes z) = longs h f z (lengths-known (nOf b) (pOf b) (length x) (length y))
+    sizes h f (no z) = inr (1, 0, size h f z)
+
+    rows : Headed b → RowsFine b (nOf b) ⊎ BadRow b (nOf b) → Placed
+    rows h (inl f) = sizes h f (size-known (nOf b) (pOf b))
+    rows h (inr (i, l, f, inl c)) = inr (14, i, claim h l f c)
+    rows h (inr (i, l, f, inr (c, r))) = inr (15, i, pair h l f c r)
+
+    flagged : 5 ≤ length b → getD b 0 0 ≡ 1 → Measured b → Dec (3 < flagsOf b) → Placed
+    flagged s v m (yes g) = inr (13, 0, header (flags s v m g))
+    flagged s v m (no g) = rows (record { begun = s; version = v; measured = m; flags = omega (arith, g) }) (rows-known b (nOf b))
+
+    measures : 5 ≤ length b → getD b 0 0 ≡ 1 → Dec (Measured b) → Placed
+    measures s v (yes m) = flagged s v m (decLt 3 (flagsOf b))
+    measures s v (no m) = inr (12, 0, header (measure s v m))
+
+    versions : 5 ≤ length b → Dec (getD b 0 0 ≡ 1) → Placed
+    versions s (yes v) = measures s v (measured-known b)
+    versions s (no v) = inr (11, 0, header (version s v))
+
+    begins : Dec (length b < 5) → Placed
+    begins (yes h) = inr (12, 0, header (short h))
+    begins (no h) = versions (omega (arith, h)) (ℕ-discrete (getD b 0 0) 1)
+
+  row-told : (q : Refusal) → Headed b → rowsFrom b (pOf b) (nOf b) 0 ≡ Bad q → sheetOf b R C x y ≡ outcome (Refused q) x y
+  row-told q h e = sym (bad-row b R C (headerCheck b) refl x y (good-header b h) _ _ refl refl _ refl q (Refused q) e refl)
+
+  room-told : (q : Refusal) → Headed b → RowsFine b (nOf b) → roomCheck (nOf b) (pOf b) (length x) (length y) ≡ Bad q
+      → sheetOf b R C x y ≡ outcome (Refused q) x y
+  room-told q h f e =
+      sym (bad-room b R C (headerCheck b) refl x y (good-header b h) _ _ refl refl _ refl (good-rows b _ f) _ refl q (Refused q) e refl)
+
+  told : {k i : ℕ} → FirstRefusal k i → (q : Refusal) × (sheetOf b R C x y ≡ outcome (Refused q) x y) × (said (Refused q) ≡ refused k i)
+  told (header h) =
+      let t = header-told b h in
+      (t .0, sym (bad-header b R C (headerCheck b) refl x y (t .0) (Refused (t .0)) (t .1) refl), t .2)
+  told (claim h {i = i} l f n) = (Claim i, row-told (Claim i) h (bad-claim b _ i l f n), refl)
+  told (pair h {i = i} l f c n) = (Pair i, row-told (Pair i) h (bad-pair b _ i l f c n), refl)
+  told (size h f n) = (Size, room-told Size h f (bad-size _ _ _ _ n), refl)
+  told (lengths h f z n) = (Length, room-told Length h f (bad-length _ _ _ _ z n), refl)
+
+  module _ {r : Read} {x′ y′ : List Float} (c : Reads b R C x y r x′ y′) where
+    -- 01's number and place are those of the first refusal that holds
+    pub first-refusal : {k i : ℕ} → FirstRefusal k i → said r ≡ refused k i
+    first-refusal h =
+        let t = told h in
+        ap (λ (o : Outcome). said (answerIn o)) (c ∙ t .1) ∙ t .2
+
+    -- where none holds the sheet is read, to these numbers
+    pub well-formed-read : WellFormed → (r ≡ Sheet (headerOf b R C)) × (x′ ≡ matrixOf b (nOf b) (pOf b)) × (y′ ≡ targetsOf b (nOf b) (pOf b))
+    well-formed-read w =
+        let k = good-header b (w .header) in
+        let l = good-rows b _ (w .rows) in
+        let m = good-room _ _ _ _ (w .size) (w .lengths) in
+        let e = c ∙ sym (reads-all b R C (headerCheck b) refl x y k _ _ refl refl _ refl l _ refl _ _ _ m refl refl refl) in
+        (ap answerIn e, ap matrixIn e, ap targetsIn e)

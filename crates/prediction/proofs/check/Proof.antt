@@ -2,7 +2,8 @@
 use mathlib.Core.Path.{sym, _∙_}
 use native.Mathlib.Nat.{mul-le-mul}
 use native.Mathlib.Omega.{arith}
-use Rattle.prediction.proofs.Checks.{InSize, Lengths, bad-size, bad-length, good-sizes}
+use Rattle.refusal.proofs.Sizes.{InSize}
+use Rattle.prediction.proofs.Checks.{Lengths, bad-size, bad-length, good-sizes}
 use Rattle.prediction.proofs.check.Statement.{statement}
 use Rattle.prediction.proofs.check.Tie as tie
 
