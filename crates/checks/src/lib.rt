@@ -47,7 +47,8 @@ pub fn limits(
     Checked::Fine
 }
 
-fn in_size(n: usize, p: usize) -> bool
+// The range of rows and columns, which 1 asks.
+pub fn in_size(n: usize, p: usize) -> bool
     ensures { λ r. ⌜ r ≡ (leb 1 n && leb n 4096 && leb 1 p && leb p 64) ⌝ }
 {
     if n < 1 {

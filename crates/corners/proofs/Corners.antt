@@ -23,23 +23,12 @@ use Rattle.settings.specs.declared.Settings.{Settings}
 use Rattle.settings.specs.Settings.{gammaOf, l1Of, l2Of, termsOf, allowedOf, rangeOf, panelsOf}
 use Rattle.settings.proofs.Corners.{p7}
 use Rattle.layout.specs.Need.{needOf, sizesOf}
-use Rattle.layout.specs.Store.{upd}
-use Rattle.layout.specs.Slots.{_⟨_≔_⟩}
-use Rattle.design.specs.Statistics.{statisticsStore, targetsStore, centredOf}
-use Rattle.design.specs.Eager.{designStore, designOf, gramStore}
-use Rattle.design.specs.Mode.{matvecOf, transposedOf}
+use Rattle.design.specs.Eager.{designOf}
+use Rattle.smartcore.specs.BgSolver.{solveMut}
+use Rattle.smartcore.specs.LassoOptimizer.{round, rounds, optimize}
+use Rattle.smartcore.specs.ElasticNet.{augmentY, optimizeEager, optimizeFit, rescaled, fit}
 use Rattle.checks.specs.Checks.{limitsOf, startValues}
-use Rattle.newton.specs.Newton.{startT, nextT, g1Of, gradOf, tolerance}
-use Rattle.pause.specs.Progress.{then}
-use Rattle.pause.specs.Parts.{round+}
-use Rattle.pause.specs.Unbroken.{unbroken, close, manyRounds, oneRound, openRound}
-use Rattle.lasso_optimizer.specs.Opening.{dualOf, primalOf, gapOf, shrunkStore, residualStore, gapStore, barrierStore, preconditionerStore, gradientStore, newtonStore}
-use Rattle.lasso_optimizer.specs.Opening.{pcgtolOf, readyBy, openBy, opens}
-use Rattle.lasso_optimizer.specs.Fit.{parts, fresh, optimized}
-use Rattle.stages.specs.Stage.{howOf}
-use Rattle.beginning.specs.Start.{blankStore, preparedStore, startStore}
-use Rattle.ending.specs.End.{rescaledOf, weightsOf, interceptOf}
-use Rattle.elastic_net.specs.ElasticNet.{ending, endOutcome, fitOf}
+use Rattle.promises.specs.Outcome.{outcomeOf}
 use Rattle.sheet.specs.Bytes.{bigEndian}
 use Rattle.sheet.specs.Sheet.{lengthFits, headerCheck, rowsFrom, roomCheck, matrixOf, targetsOf, headerOf, sheetOf}
 use Rattle.corners.specs.Corners.{settingsOf, two-rows, FitHolds, SheetHolds, AllHold, p8-input, p8-end, p8-sheet, p9-input, p9-end, table}
@@ -66,9 +55,8 @@ p8-reads R C x y l k = rw (l, k) refl
 
 p8-fits : FitHolds p8-input p8-end
 unfolding
-    fitOf optimized unbroken close manyRounds ending endOutcome howOf interceptOf weightsOf rescaledOf meanOf sumOf foldTo mapOf tab fillOf
-    termsOf l1Of l2Of gammaOf rootOf rootBits last reaches count maximumOf ofBits toBits sub mul div ofInt sizesOf startStore preparedStore
-    gramStore designStore targetsStore statisticsStore blankStore _⟨_≔_⟩ upd startValues firstInfinite
+    fit optimizeFit optimizeEager optimize rounds rescaled outcomeOf meanOf sumOf foldTo mapOf tab fillOf startValues firstInfinite
+    termsOf l1Of l2Of gammaOf rootOf rootBits last reaches count maximumOf ofBits toBits sub mul div ofInt sizesOf
 p8-fits R C = record {
   lambda = lambda-two 0 R C;
   limits = accepted 0 R C refl;
@@ -80,12 +68,9 @@ p8-fits R C = record {
 
 p9-fits : FitHolds p9-input p9-end
 unfolding
-    fitOf optimized unbroken close manyRounds oneRound openRound then round+ parts fresh ending endOutcome howOf fillOf startValues firstInfinite
-    opens openBy readyBy gapStore residualStore shrunkStore gapOf primalOf dualOf newtonStore barrierStore gradientStore preconditionerStore
-    pcgtolOf tolerance startT nextT g1Of gradOf matvecOf transposedOf rowsOf columnsOf dotOf norm1Of norm2Of normInfOf mapOf zipOf foldTo tab
-    startStore preparedStore gramStore designStore designOf grid targetsStore centredOf part meanOf sumOf statisticsStore
-    blankStore _⟨_≔_⟩ upd sizesOf termsOf l1Of l2Of gammaOf rootOf rootBits last reaches count
-    maximumOf minimumOf magnitudeOf ofBits toBits sub mul div ofInt le
+    fit optimizeFit optimizeEager optimize rounds round solveMut augmentY outcomeOf startValues firstInfinite
+    rowsOf columnsOf dotOf norm1Of norm2Of normInfOf mapOf zipOf foldTo tab fillOf designOf grid part meanOf sumOf
+    sizesOf termsOf l1Of l2Of gammaOf rootOf rootBits last reaches count maximumOf minimumOf magnitudeOf ofBits toBits sub mul div ofInt le
 p9-fits R C = record {
   lambda = lambda-two 1 R C;
   limits = accepted 1 R C refl;

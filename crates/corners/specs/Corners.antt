@@ -15,7 +15,9 @@ use Rattle.checks.specs.Checks.{limitsOf, startValues}
 use Rattle.stages.specs.declared.Counts.{Counts}
 use Rattle.records.specs.Records.{endedOf}
 use Rattle.ending.specs.End.{gone}
-use Rattle.elastic_net.specs.ElasticNet.{Said, limit, refused, Outcome, ending, fitOf}
+use Rattle.elastic_net.specs.ElasticNet.{Said, limit, refused, Outcome}
+use Rattle.smartcore.specs.ElasticNet.{fit as fitR}
+use Rattle.promises.specs.Outcome.{outcomeOf}
 use Rattle.sheet.specs.declared.Read.the-variants.{Sheet}
 use Rattle.sheet.specs.Sheet.{outcome, sheetOf}
 
@@ -42,7 +44,7 @@ pub data Row : Type 0 where
   root : ℕ → ℕ → Row
   -- gamma of an l2
   gamma : ℕ → ℕ → Row
-  -- an input is accepted, and its unbroken fit ends so
+  -- an input is accepted, and smartcore's fit of it ends so
   fit : Input → Ends → Row
   -- bytes are the sheet of an input, and its fit ends so
   sheet : List ℕ → Input → Ends → Row
@@ -81,7 +83,7 @@ pub record Fits (n p : ℕ) (x y : List Float) (st : Settings) (a : Ends) : Type
   pub lambda : termsOf st n .lambda ≡ f64 (a .lambda)
   pub limits : (room : ℕ) → needOf n p st ≤ room → limitsOf n p (length x) (length y) p st room ≡ Fine
   pub values : startValues x y n p (st .normalise) ≡ Fine
-  pub ends : (e : List Float) → ending (sizesOf n p st) (st .normalise) (termsOf st n .gamma) y e (fitOf n p x y st) ≡ endOf n p st a e
+  pub ends : (e : List Float) → outcomeOf (sizesOf n p st) e (fitR n p x y st) ≡ endOf n p st a e
 
 abbrev pub FitHolds : Input → Ends → Type 0
 FitHolds i a = (R C : ℕ) → Fits (i .n) (i .p) (floats (i .matrix)) (floats (i .targets)) (settingsOf i R C) a

@@ -21,7 +21,7 @@ use Rattle.pause.specs.Progress.{Progress, over, going}
 use Rattle.pause.specs.Parts.{none, End, end}
 use Rattle.pause.specs.Paused.{State, dataOf, call}
 use Rattle.lasso_optimizer.specs.Data.{Data, storeOf}
-use Rattle.lasso_optimizer.specs.Fit.{parts, fresh, optimized}
+use Rattle.lasso_optimizer.specs.Fit.{parts, fresh}
 use Rattle.stages.specs.declared.Counts.{Counts}
 use Rattle.stages.specs.declared.Paused.{Paused}
 use Rattle.stages.specs.declared.Stage.the-variants.{Opening}
@@ -143,14 +143,6 @@ startOf n p x y st s =
       answer = ready (pausedAt Opening 0 none (fresh p (tm .lambda)));
       scratch = flatly sh (startStore sh (st .normalise) tm x y) (rest sh s);
     }))
-
--- ---- the unbroken fit of an input
-
-unfoldable pub fitOf : ℕ → ℕ → List Float → List Float → Settings → End Data
-fitOf n p x y st =
-    let sh = sizesOf n p st in
-    let tm = termsOf st n in
-    optimized sh tm (st .tol) x (st .rounds) (startStore sh (st .normalise) tm x y)
 
 -- ---- what the inner functions answer
 

@@ -1,4 +1,4 @@
-// What an optimiser's round hands on, and how its parts answer. The parts themselves are defined in specs/, with the unbroken fit; the code for each has a crate of its own.
+// What an optimiser's round hands on, and how its parts answer. The parts themselves are defined in specs/, with the nested loops over them; the code for each has a crate of its own.
 
 // The scalars between steps.
 pub struct Scalars {

@@ -43,7 +43,8 @@ use Rattle.beginning.specs.Start.{startStore}
 use Rattle.beginning.proofs.Sized.{start-sized}
 use Rattle.elastic_net.specs.declared.Resumed.{Resumed}
 use Rattle.elastic_net.specs.declared.Started.the-variants.{Ready as ReadyS, Refused as RefusedS}
-use Rattle.elastic_net.specs.ElasticNet.{pending, said, Outcome, outcome, endOutcome, ending, shown, fitOf}
+use Rattle.elastic_net.specs.ElasticNet.{pending, said, Outcome, outcome, endOutcome, ending, shown}
+use Rattle.unbroken_fit.specs.Unbroken.{fitOf}
 use Rattle.promises.specs.Chain.{Starts, Resumes}
 use Rattle.promises.proofs.Refused.{firstOf, startCheck, resumeCheck, start-refused, start-accepted, resume-accepted}
 use Rattle.promises.proofs.Fresh.{start-fresh}

@@ -1,25 +1,20 @@
 -- What holds at every pause, whatever the budgets, and at the unbroken fit's end: the weights within their bounds, and the counts within theirs. Assumes nothing.
-use Prim.Native.Nat.{ℕ, _+_, _*_, _<_, _≤_}
+use Prim.Native.Nat.{ℕ, _≤_}
 use mathlib.Core.Path.{_≡_, refl, ap, sym, subst, _∙_}
-use mathlib.Core.Bool.{true}
 use mathlib.Core.List.{List}
-use lib.Dec.{T}
 use lib.Ieee.{Float}
-use lib.Ieee.Scale.{finite}
-use lib.Ieee.Positive.{positive}
 use Rattle.arrays.specs.Part.{part}
-use Rattle.arrays.specs.Sums.{_!_}
 use Rattle.settings.specs.declared.Settings.{Settings}
 use Rattle.layout.specs.declared.Sizes.{Sizes}
 use Rattle.layout.specs.Slots.{Store, off, vars-of}
 use Rattle.layout.specs.Slots.{Slot.W, Slot.U}
 use Rattle.layout.specs.Need.{sizesOf}
-use Rattle.bound.specs.Kept.{Inside, Kept as KeptAt}
+use Rattle.bound.specs.Kept.{Kept as KeptAt}
 use Rattle.bound.proofs.Barrier.{bounded-finite}
 use Rattle.pause.specs.Progress.{total}
-use Rattle.pause.specs.Parts.{How, Counts, made, End, end}
-use Rattle.pause.specs.Paused.{State, opening, solving, searching, countsOf, dataOf}
-use Rattle.pause.specs.Bounds.{EndWithin}
+use Rattle.pause.specs.Parts.{converged, limit, refused, made, End, end}
+use Rattle.pause.specs.Paused.{State, opening, solving, searching, countsOf, dataOf, start}
+use Rattle.pause.specs.Bounds.{EndWithin as InBounds}
 use Rattle.pause.specs.Invariant.{EndKept}
 use Rattle.pause.proofs.Unbroken.{unbroken-counts}
 use Rattle.pause.proofs.Kept.{unbroken-kept}
@@ -29,12 +24,17 @@ use Rattle.lasso_optimizer.specs.Fit.{parts, optimized}
 use Rattle.pausing.specs.Kept.{KeptData}
 use Rattle.stages.specs.declared.Paused.{Paused}
 use Rattle.stages.specs.Stage.{countsBack, pausedOf}
-use Rattle.checks.proofs.Laws.{sizes-known}
-use Rattle.records.specs.Records.{possibleOf}
+use Rattle.checks.proofs.Laws.{sizes-known, accepted}
 use Rattle.elastic_net.specs.declared.Resumed.{Resumed}
 use Rattle.elastic_net.specs.declared.Started.the-variants.{Ready as ReadyS}
-use Rattle.elastic_net.specs.ElasticNet.{pending, said, fitOf}
+use Rattle.elastic_net.specs.ElasticNet.{pending, said}
+use Rattle.smartcore.specs.LassoOptimizer.{Fitted, Point}
+use Rattle.smartcore.specs.ElasticNet.{optimizeFit}
+use Rattle.unbroken_fit.specs.Unbroken.{fitOf, countsOf as countsFrom, pointOf, told}
+use Rattle.unbroken_fit.proofs.Fit.{as-the-rust}
 use Rattle.promises.specs.Chain.{Starts, Chain}
+use Rattle.promises.specs.Outcome.{countsIn}
+use Rattle.promises.specs.Within.{Within, PauseWithin, EndWithin, CountedAt, CountsWithin}
 use Rattle.promises.proofs.Calls.{partsOf, firstData, some-solves, some-trials, parts-within, start-fits, start-poised}
 use Rattle.promises.proofs.Pauses.{Pause, on-the-way}
 
@@ -55,16 +55,6 @@ counts-are (opening r c d) = refl
 counts-are (solving r k c d) = refl
 counts-are (searching r j c d) = refl
 
--- each of p weights is finite and strictly within its finite bound, and t is finite and positive
-pub record Within (p : ℕ) (t : Float) (ws us : List Float) : Type 0 where
-  pub weights : (i : ℕ) → i < p → Inside (ws ! i) (us ! i)
-  pub barrier : T (finite t) × T (positive t)
-
--- as many steps were made as were given, and the record passes 9: its counts are within their bounds
-pub record CountedAt (M given : ℕ) (a : Paused) : Type 0 where
-  pub steps : a .counts .rounds .0 + a .counts .solver .0 + a .counts .trials .0 ≡ given
-  pub passes : possibleOf M a ≡ true
-
 within-of : (p k : ℕ) (t : Float) (ws us : List Float) → KeptAt p k t ws us → Within p t ws us
 within-of p k t ws us h = record { weights = h .inside; barrier = bounded-finite k t (h .barrier) }
 
@@ -79,7 +69,7 @@ module _ (n p : ℕ) (x y : List Float) (st : Settings) where
   of-columns t s h = subst (λ (q : ℕ). Within q t (part s (off sh W) q) (part s (off sh U) q)) (sizes-known n p st .columns) h
 
   module _ (u : End Data) (e : List Float) (k : ℕ) (a : Paused) (s : List Float) (g : Pause n p x y st u e k a s) where
-    pause-within : Within p (a .scalars .t) (part s (off (sizesOf n p st) W) p) (part s (off (sizesOf n p st) U) p)
+    pause-within : PauseWithin n p st a s
     pause-within =
         let d = dataOf (g .state) in
         let b : a .scalars ≡ scalarsOf d = ap (λ (r : Paused). r .scalars) (g .poised .is) ∙ scalars-are (g .state) in
@@ -98,12 +88,16 @@ module _ (n p : ℕ) (x y : List Float) (st : Settings) where
   module _ (s s₁ : List Float) (a : Paused) (h : Starts n p x y st s (ReadyS a) s₁) where
     module _ (bs : List ℕ) (r : Resumed) (w s₂ : List Float) (c : Chain n p x y st bs a s₁ r w s₂) (pend : said (r .answer) ≡ pending) where
       -- AT EVERY PAUSE the weights in the scratch are within their bounds, and t in the record is finite and positive
-      pub pause-keeps : Within p (r .paused .scalars .t) (part s₂ (off (sizesOf n p st) W) p) (part s₂ (off (sizesOf n p st) U) p)
+      pub pause-keeps : PauseWithin n p st (r .paused) s₂
       pause-keeps = pause-within _ _ _ (r .paused) s₂ (on-the-way n p x y st s s₁ a h bs r w s₂ c pend)
 
       -- and the counts add up to the budgets given
       pub pause-counts : CountedAt (st .rounds) (total bs) (r .paused)
       pause-counts = pause-counted _ _ _ (r .paused) s₂ (on-the-way n p x y st s s₁ a h bs r w s₂ c pend)
+
+    -- BEFORE THE FIRST CALL they are so in the scratch that the start leaves
+    pub start-keeps : PauseWithin n p st a s₁
+    start-keeps = pause-within _ _ _ a s₁ (record { state = start (firstData n p x y st); poised = start-poised n p x y st s s₁ a h })
 
     end-kept : EndKept (KeptData (sizesOf n p st .p)) (fitOf n p x y st)
     unfolding fitOf optimized countsOf dataOf
@@ -111,17 +105,31 @@ module _ (n p : ℕ) (x y : List Float) (st : Settings) where
         unbroken-kept (partsOf n p x st) (st .rounds) (KeptData (sh .p)) (parts-within n p x y st _ (start-fits n p x y st s s₁ a h)) (some-solves n p x st)
         (some-trials n p x st) (firstData n p x y st) (start-poised n p x y st s s₁ a h .within .holds)
 
-    -- AT THE UNBROKEN FIT'S END, before the weights are rescaled
-    pub end-keeps : (o : How) (c : Counts) (d : Data) → fitOf n p x y st ≡ end o c d → Within p (scalarsOf d .t) (storeOf d W) (storeOf d U)
-    unfolding EndKept
-    end-keeps o c d q =
-        let k : KeptData (sh .p) (c .rounds) d = rw q at end-kept in
-        subst (λ (m : ℕ). Within m (scalarsOf d .t) (storeOf d W) (storeOf d U)) (sizes-known n p st .columns) (within-of _ _ _ _ _ (of-kept _ _ d k))
+    data-within : (k : ℕ) (d : Data) → KeptData (sizesOf n p st .p) k d → Within p (scalarsOf d .t) (storeOf d W) (storeOf d U)
+    data-within k d i =
+        subst (λ (m : ℕ). Within m (scalarsOf d .t) (storeOf d W) (storeOf d U)) (sizes-known n p st .columns) (within-of _ _ _ _ _ (of-kept _ _ d i))
 
-  -- THE COUNTS of the unbroken fit: at most M rounds, and for each at most 4,999 solver rounds and 100 trials
-  pub counts-within : (o : How) (c : Counts) (d : Data) → fitOf n p x y st ≡ end o c d
-      → (c .rounds ≤ st .rounds) × (c .solver ≤ 4999 * c .rounds) × (c .trials ≤ 100 * c .rounds)
-  unfolding fitOf optimized EndWithin parts
-  counts-within o c d q =
-      let k = rw q at (unbroken-counts (partsOf n p x st) (st .rounds) (some-solves n p x st) (some-trials n p x st) (firstData n p x y st)) in
-      (k .rounds-in, k .solver-in, k .trials-in)
+    told-within : (u : End Data) → EndKept (KeptData (sizesOf n p st .p)) u → EndWithin p (told u)
+    unfolding EndKept told pointOf
+    told-within (end converged c d) k = data-within (c .rounds) d k
+    told-within (end limit c d) k = data-within (c .rounds) d k
+    told-within (end (refused i) c d) k = tt
+
+    -- WHERE SMARTCORE'S ROUNDS END with weights, before they are rescaled
+    pub end-keeps : EndWithin p (optimizeFit n p x y st)
+    end-keeps =
+        subst (EndWithin p) (as-the-rust n p x y st (accepted (start-fits n p x y st s s₁ a h) .some-rows)) (told-within (fitOf n p x y st) end-kept)
+
+  told-counts : (u : End Data) → InBounds (partsOf n p x st) (st .rounds) u → CountsWithin (st .rounds) (countsIn (told u))
+  unfolding InBounds told countsFrom parts
+  told-counts (end converged c d) k = record { openings = k .rounds-in; solver = k .solver-in; trials = k .trials-in }
+  told-counts (end limit c d) k = record { openings = k .rounds-in; solver = k .solver-in; trials = k .trials-in }
+  told-counts (end (refused i) c d) k = record { openings = k .rounds-in; solver = k .solver-in; trials = k .trials-in }
+
+  -- THE COUNTS of a whole fit, of an input that has a row
+  pub counts-within : 1 ≤ n → CountsWithin (st .rounds) (countsIn (optimizeFit n p x y st))
+  unfolding fitOf optimized
+  counts-within some =
+      subst (λ (o : Fitted Point). CountsWithin (st .rounds) (countsIn o)) (as-the-rust n p x y st some)
+      (told-counts (fitOf n p x y st)
+      (unbroken-counts (partsOf n p x st) (st .rounds) (some-solves n p x st) (some-trials n p x st) (firstData n p x y st)))

@@ -2,28 +2,33 @@
 use Prim.Native.Nat.{ℕ, _+_, _*_, _≤_}
 use native.Mathlib.Nat.{zero-add}
 use native.Mathlib.Omega.{arith}
-use mathlib.Core.Path.{_≡_, refl, ap}
+use mathlib.Core.Path.{_≡_, refl, ap, _∙_}
 use mathlib.Core.List.{List, [], _∷_, _++_}
 use lib.Ieee.{Float}
 use Rattle.arrays.specs.Sums.{plus0}
 use Rattle.arrays.specs.Vectors.{fillOf}
 use Rattle.settings.specs.declared.Settings.{Settings}
 use Rattle.settings.specs.Settings.{termsOf}
-use Rattle.layout.specs.Slots.{Store, rest, words}
+use Rattle.layout.specs.Slots.{rest, words}
 use Rattle.layout.specs.Need.{sizesOf}
 use Rattle.pause.specs.Progress.{Progress, over, going, total}
-use Rattle.pause.specs.Parts.{How, Counts, End, end}
+use Rattle.pause.specs.Parts.{End}
 use Rattle.pause.specs.Paused.{State, call, start}
-use Rattle.lasso_optimizer.specs.Data.{Data, storeOf}
+use Rattle.lasso_optimizer.specs.Data.{Data}
 use Rattle.stages.specs.declared.Paused.{Paused}
-use Rattle.stages.specs.Stage.{countsBack, howOf}
+use Rattle.checks.proofs.Laws.{accepted, sizes-known}
 use Rattle.records.specs.Records.{endedOf}
-use Rattle.ending.specs.End.{weightsOf, interceptOf, gone}
+use Rattle.ending.specs.End.{gone}
 use Rattle.elastic_net.specs.declared.Resumed.{Resumed}
 use Rattle.elastic_net.specs.declared.Started.the-variants.{Ready as ReadyS}
-use Rattle.elastic_net.specs.ElasticNet.{pending, said, Outcome, outcome, endAnswer, endWeights, endOutcome, ending, fitOf}
-use Rattle.promises.specs.Chain.{Starts, Chain, last, more}
-use Rattle.promises.proofs.Calls.{partsOf, firstData, Poised, ended-with, poised-next, early, says-pending, says-ended, start-poised}
+use Rattle.elastic_net.specs.ElasticNet.{pending, said, Outcome, outcome, ending}
+use Rattle.smartcore.specs.LassoOptimizer.{Fitted}
+use Rattle.smartcore.specs.ElasticNet.{ElasticNet, fit}
+use Rattle.unbroken_fit.specs.Unbroken.{fitOf}
+use Rattle.promises.specs.Chain.{Starts, Chain, last, more, Enough}
+use Rattle.promises.specs.Outcome.{countsIn, answered, answerOf, weightsIn, outcomeOf}
+use Rattle.promises.proofs.Answer.{answers-as-the-rust}
+use Rattle.promises.proofs.Calls.{partsOf, firstData, Poised, ended-with, poised-next, early, says-pending, says-ended, start-fits, start-poised}
 
 -- a state that a record and a scratch are poised in
 pub record Pause (n p : ℕ) (x y : List Float) (st : Settings) (u : End Data) (e : List Float) (k : ℕ) (a : Paused) (s : List Float) : Type 0 where
@@ -82,34 +87,41 @@ module _ (n p : ℕ) (x y : List Float) (st : Settings) (u : End Data) (e : List
           let m : k + (b + total bs) ≡ k + b + total bs = omega arith in
           rw m (rec t (poised-next n p x y st u e k z a s g w l b r₁ w₁ s₁ c t q))
 
--- what a fit that is over shows, e being the scratch's excess
-pub record EndsAs (n p : ℕ) (y : List Float) (st : Settings) (e : List Float) (o : How) (c : Counts) (v : Store) (r : Resumed) (w s : List Float) : Type 0 where
-  pub answer : said (r .answer) ≡ endAnswer (howOf o) (interceptOf (sizesOf n p st) (st .normalise) (termsOf st n .gamma) y v) (countsBack c)
-  pub paused : r .paused ≡ endedOf (countsBack c)
-  pub weights : w ≡ endWeights (howOf o) (sizesOf n p st .p) (weightsOf (sizesOf n p st) (st .normalise) (termsOf st n .gamma) v)
+-- what the call that ends a fit shows, e being the scratch's excess
+pub record EndsAs (n p : ℕ) (st : Settings) (e : List Float) (o : Fitted ElasticNet) (r : Resumed) (w s : List Float) : Type 0 where
+  pub answer : said (r .answer) ≡ answerOf o
+  pub paused : r .paused ≡ endedOf (answered (countsIn o))
+  pub weights : w ≡ weightsIn p o
   pub scratch : s ≡ fillOf plus0 (words (sizesOf n p st)) ++ e
 
 module _ (n p : ℕ) (x y : List Float) (st : Settings) (s s₁ : List Float) (a : Paused) (h : Starts n p x y st s (ReadyS a) s₁) where
-  -- THE PAUSE THEOREM: after an accepted start, calls whose budgets add up to 5,100·M at least end with the unbroken fit's outcome:
-  -- its answer, weights and counts, +0 in every needed word of the scratch, and the excess as it was
-  pub pause-theorem : (b : ℕ) (bs : List ℕ) → st .rounds * 5100 ≤ total (b ∷ bs)
+  -- the end is that of the parts in nested loops
+  pub pause-theorem : (b : ℕ) (bs : List ℕ) → Enough (st .rounds) (b ∷ bs)
       → (r : Resumed) (w s₂ : List Float) → Chain n p x y st (b ∷ bs) a s₁ r w s₂
       → outcome r w s₂ ≡ ending (sizesOf n p st) (st .normalise) (termsOf st n .gamma) y (rest (sizesOf n p st) s) (fitOf n p x y st)
   pause-theorem b bs enough r w s₂ c =
       chain-ends n p x y st (fitOf n p x y st) (rest (sizesOf n p st) s) (b ∷ bs) a s₁ r w s₂ c 0 (start (firstData n p x y st))
       (start-poised n p x y st s s₁ a h) (omega arith)
 
+  -- CONDITION 3: after an accepted start, calls whose budgets add up to 5,100·M at least end as smartcore's fit: with its answer, weights and
+  -- counts, +0 in every needed word of the scratch, and the excess as it was
+  pub pauses-end-as-the-rust : (b : ℕ) (bs : List ℕ) → Enough (st .rounds) (b ∷ bs)
+      → (r : Resumed) (w s₂ : List Float) → Chain n p x y st (b ∷ bs) a s₁ r w s₂
+      → outcome r w s₂ ≡ outcomeOf (sizesOf n p st) (rest (sizesOf n p st) s) (fit n p x y st)
+  pauses-end-as-the-rust b bs enough r w s₂ c =
+      pause-theorem b bs enough r w s₂ c ∙ answers-as-the-rust n p x y st (rest (sizesOf n p st) s) (accepted (start-fits n p x y st s s₁ a h) .some-rows)
+
   -- the same in words
-  pub ends-as-unbroken : (b : ℕ) (bs : List ℕ) → st .rounds * 5100 ≤ total (b ∷ bs)
-      → (r : Resumed) (w s₂ : List Float) → Chain n p x y st (b ∷ bs) a s₁ r w s₂ → (o : How) (c : Counts) (d : Data) → fitOf n p x y st ≡ end o c d
-      → EndsAs n p y st (rest (sizesOf n p st) s) o c (storeOf d) r w s₂
-  unfolding ending endOutcome gone
-  ends-as-unbroken b bs enough r w s₂ c o k d q =
-      let t = rw q at (pause-theorem b bs enough r w s₂ c) in
+  pub ends-as-unbroken : (b : ℕ) (bs : List ℕ) → Enough (st .rounds) (b ∷ bs)
+      → (r : Resumed) (w s₂ : List Float) → Chain n p x y st (b ∷ bs) a s₁ r w s₂
+      → EndsAs n p st (rest (sizesOf n p st) s) (fit n p x y st) r w s₂
+  unfolding outcomeOf gone
+  ends-as-unbroken b bs enough r w s₂ c =
+      let t = pauses-end-as-the-rust b bs enough r w s₂ c in
       record {
         answer = ap (λ (u : Outcome). u .answer) t;
         paused = ap (λ (u : Outcome). u .paused) t;
-        weights = ap (λ (u : Outcome). u .weights) t;
+        weights = ap (λ (u : Outcome). u .weights) t ∙ ap (λ (k : ℕ). weightsIn k (fit n p x y st)) (sizes-known n p st .columns);
         scratch = ap (λ (u : Outcome). u .scratch) t;
       }
 

@@ -29,7 +29,7 @@ use Rattle.elastic_net.specs.declared.Started.{Started}
 use Rattle.elastic_net.specs.declared.Started.the-variants.{Ready as ReadyS, Refused as RefusedS}
 use Rattle.elastic_net.specs.ElasticNet.{said, Outcome, outcome, byCheck, resumeOf, shown, Begun, byStartCheck, startOf}
 use Rattle.promises.specs.Chain.{Starts, Resumes}
-use Rattle.promises.proofs.Unique.{said-same, saidS-same}
+use Rattle.promises.proofs.Unique.{outcomes-same, begun-same}
 
 -- of two checks in a row, the second looked at only where the first is fine
 abbrev pub firstOf : Checked → Checked → Checked
@@ -60,8 +60,8 @@ module _ (n p : ℕ) (x y : List Float) (st : Settings) (s : List Float) (o : St
   pub start-refused : (r : Refusal) → startCheck n p x y st s ≡ Bad r → (o ≡ RefusedS r) × (s₁ ≡ s)
   unfolding startOf
   start-refused r q =
-      let b = start-when (limitsOf n p (length x) (length y) p st (length s)) (startValues x y n p (st .normalise)) s _ _ h (Bad r) q in
-      (saidS-same o (RefusedS r) (ap (λ (t : Begun). t .answer) b), ap (λ (t : Begun). t .scratch) b)
+      begun-same o (RefusedS r) s₁ s
+      (start-when (limitsOf n p (length x) (length y) p st (length s)) (startValues x y n p (st .normalise)) s _ _ h (Bad r) q)
 
   -- ACCEPTED: a fresh record, and the scratch holds a fresh fit's vectors, its excess as it was
   pub start-accepted : startCheck n p x y st s ≡ Fine
@@ -69,8 +69,9 @@ module _ (n p : ℕ) (x y : List Float) (st : Settings) (s : List Float) (o : St
       × (s₁ ≡ flatly (sizesOf n p st) (startStore (sizesOf n p st) (st .normalise) (termsOf st n) x y) (rest (sizesOf n p st) s))
   unfolding startOf
   start-accepted q =
-      let b = start-when (limitsOf n p (length x) (length y) p st (length s)) (startValues x y n p (st .normalise)) s _ _ h Fine q in
-      (saidS-same o (ReadyS (pausedAt Opening 0 none (fresh p (termsOf st n .lambda)))) (ap (λ (t : Begun). t .answer) b), ap (λ (t : Begun). t .scratch) b)
+      begun-same o (ReadyS (pausedAt Opening 0 none (fresh p (termsOf st n .lambda)))) s₁
+      (flatly (sizesOf n p st) (startStore (sizesOf n p st) (st .normalise) (termsOf st n) x y) (rest (sizesOf n p st) s))
+      (start-when (limitsOf n p (length x) (length y) p st (length s)) (startValues x y n p (st .normalise)) s _ _ h Fine q)
 
 -- a call that answers g and leaves record, weights and scratch as they were
 pub record Unchanged (a : Paused) (s w : List Float) (r : Resumed) (w′ s′ : List Float) (g : Answer) : Type 0 where
@@ -81,12 +82,9 @@ pub record Unchanged (a : Paused) (s w : List Float) (r : Resumed) (w′ s′ : 
 
 pub unchanged : (a : Paused) (s w : List Float) (r : Resumed) (w′ s′ : List Float) (g : Answer)
     → outcome r w′ s′ ≡ record { answer = said g; paused = a; weights = w; scratch = s } → Unchanged a s w r w′ s′ g
-unchanged a s w r w′ s′ g o = record {
-  answer = said-same (r .answer) g (ap (λ (t : Outcome). t .answer) o);
-  paused = ap (λ (t : Outcome). t .paused) o;
-  weights = ap (λ (t : Outcome). t .weights) o;
-  scratch = ap (λ (t : Outcome). t .scratch) o;
-}
+unchanged a s w r w′ s′ g o =
+    let t = outcomes-same r (record { answer = g; paused = a }) w′ w s′ s o in
+    record { answer = t .answers; paused = t .records; weights = t .weights; scratch = t .scratch }
 
 module _ (n p : ℕ) (x y : List Float) (st : Settings) (a : Paused) (s w : List Float) (b : ℕ) (r : Resumed) (w′ s′ : List Float)
     (h : Resumes n p x y st a s w b r w′ s′) where

@@ -86,27 +86,31 @@ saidS-same a b q = sym (unsaidS-said a) ∙ ap unsaidS q ∙ unsaidS-said b
 
 -- ---- the contracts
 
--- what two resuming calls answer and leave
+-- what two calls answer and leave
 pub record Same (r r′ : Resumed) (w w′ s s′ : List Float) : Type 0 where
   pub answers : r .answer ≡ r′ .answer
   pub records : r .paused ≡ r′ .paused
   pub weights : w ≡ w′
   pub scratch : s ≡ s′
 
+-- OUTCOMES THAT ARE EQUAL have the same answer, record, weights and scratch
+pub outcomes-same : (r r′ : Resumed) (w w′ s s′ : List Float) → outcome r w s ≡ outcome r′ w′ s′ → Same r r′ w w′ s s′
+outcomes-same r r′ w w′ s s′ q = record {
+  answers = said-same (r .answer) (r′ .answer) (ap (λ (o : Outcome). o .answer) q);
+  records = ap (λ (o : Outcome). o .paused) q;
+  weights = ap (λ (o : Outcome). o .weights) q;
+  scratch = ap (λ (o : Outcome). o .scratch) q;
+}
+
+-- and so for starts
+pub begun-same : (r r′ : Started) (s s′ : List Float) → begun r s ≡ begun r′ s′ → (r ≡ r′) × (s ≡ s′)
+begun-same r r′ s s′ q = (saidS-same r r′ (ap (λ (o : Begun). o .answer) q), ap (λ (o : Begun). o .scratch) q)
+
 module _ (n p : ℕ) (x y : List Float) (st : Settings) where
   pub resume-unique : (a : Paused) (s w : List Float) (b : ℕ) (r r′ : Resumed) (w₁ w₂ s₁ s₂ : List Float)
       → Resumes n p x y st a s w b r w₁ s₁ → Resumes n p x y st a s w b r′ w₂ s₂ → Same r r′ w₁ w₂ s₁ s₂
-  resume-unique a s w b r r′ w₁ w₂ s₁ s₂ h k =
-      let q : outcome r w₁ s₁ ≡ outcome r′ w₂ s₂ = h ∙ sym k in
-      record {
-        answers = said-same (r .answer) (r′ .answer) (ap (λ (o : Outcome). o .answer) q);
-        records = ap (λ (o : Outcome). o .paused) q;
-        weights = ap (λ (o : Outcome). o .weights) q;
-        scratch = ap (λ (o : Outcome). o .scratch) q;
-      }
+  resume-unique a s w b r r′ w₁ w₂ s₁ s₂ h k = outcomes-same r r′ w₁ w₂ s₁ s₂ (h ∙ sym k)
 
   pub start-unique : (s : List Float) (r r′ : Started) (s₁ s₂ : List Float)
       → Starts n p x y st s r s₁ → Starts n p x y st s r′ s₂ → (r ≡ r′) × (s₁ ≡ s₂)
-  start-unique s r r′ s₁ s₂ h k =
-      let q : begun r s₁ ≡ begun r′ s₂ = h ∙ sym k in
-      (saidS-same r r′ (ap (λ (o : Begun). o .answer) q), ap (λ (o : Begun). o .scratch) q)
+  start-unique s r r′ s₁ s₂ h k = begun-same r r′ s₁ s₂ (h ∙ sym k)

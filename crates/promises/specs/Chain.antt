@@ -1,10 +1,11 @@
 -- Calls as the public contracts allow them, one after another. Definitions only.
-use Prim.Native.Nat.{ℕ}
+use Prim.Native.Nat.{ℕ, _*_, _≤_}
 use mathlib.Core.Path.{_≡_}
 use mathlib.Core.List.{List, [], _∷_}
 use lib.ListN.{length}
 use lib.Ieee.{Float}
 use Rattle.settings.specs.declared.Settings.{Settings}
+use Rattle.pause.specs.Progress.{total}
 use Rattle.stages.specs.declared.Paused.{Paused}
 use Rattle.elastic_net.specs.declared.Resumed.{Resumed}
 use Rattle.elastic_net.specs.declared.Started.{Started}
@@ -25,3 +26,7 @@ pub data Chain (n p : ℕ) (x y : List Float) (st : Settings) : List ℕ → Pau
   more : {b : ℕ} {bs : List ℕ} {a : Paused} {s : List Float} {r′ : Resumed} {w″ s″ : List Float} → (w : List Float) → length w ≡ p
       → (r : Resumed) (w′ s′ : List Float) → Resumes n p x y st a s w b r w′ s′ → said (r .answer) ≡ pending
       → Chain n p x y st bs (r .paused) s′ r′ w″ s″ → Chain n p x y st (b ∷ bs) a s r′ w″ s″
+
+-- budgets that suffice for M rounds, each of 1 + 4,999 + 100 steps at most
+abbrev pub Enough : ℕ → List ℕ → Type 0
+Enough M bs = M * 5100 ≤ total bs

@@ -1,2 +1,3 @@
 mod Returns
 pub mod Within
+pub mod Unique

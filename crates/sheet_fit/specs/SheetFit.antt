@@ -1,4 +1,5 @@
 -- What the program answers to a sheet: the text of its fit, or of the first refusal in 01's order. Definitions only.
+use mathlib.Core.Path.{_≡_}
 use mathlib.Core.Bool.{_&&_, cond}
 use mathlib.Core.List.{List, []}
 use Prim.Native.Nat.{ℕ, _*_}
@@ -21,7 +22,7 @@ use Rattle.sheet.specs.Sheet.{outcome, sheetOf, headerRead}
 use Rattle.sheet.specs.Sheet.{Outcome as SheetOutcome}
 use Rattle.answer_text.specs.declared.Ending.{Ending}
 use Rattle.answer_text.specs.declared.Ending.the-variants.{Converged, Limit}
-use Rattle.answer_text.specs.Text.{doneText, refusedText}
+use Rattle.answer_text.specs.Text.{Written.written, laid, doneText, refusedText}
 
 abbrev pub refusalText : Refusal → List ℕ
 refusalText r = refusedText (numberOf r) (placeOf r)
@@ -61,3 +62,7 @@ headedText b (Sheet h) = sizedText b (h .n) (h .p)
 -- 16 beyond 35,878 bytes, ahead of everything
 unfoldable pub sheetText : List ℕ → List ℕ
 sheetText b = cond (ltb 35878 (length b)) (refusalText TooLarge) (headedText b (headerRead b 32 8))
+
+-- the contract of `fit_sheet`: for the bytes b it answers k, and leaves out′ where `out` was lent
+abbrev pub FitsSheet : List ℕ → List ℕ → ℕ → List ℕ → Type 0
+FitsSheet b out k out′ = written k out′ ≡ laid (sheetText b) out

@@ -1,1 +1,2 @@
-mod Returns
+pub mod Returns
+pub mod Unique

@@ -1,4 +1,4 @@
-// start, resume, fit, predict, solve and read_sheet once each, on numbers that can be followed by hand; the README quotes what this prints.
+// start, resume, fit_in_pieces, fit, predict, solve and read_sheet once each, on numbers that can be followed by hand; the README quotes what this prints.
 use elastic_net::Answer;
 use elastic_net::Started;
 use elastic_net::Way;
@@ -6,6 +6,7 @@ use elastic_net::resume;
 use elastic_net::start;
 use lone_solver::solve;
 use numbers::bits::bits_of;
+use paused_fit::fit_in_pieces;
 use prediction::Predicted;
 use prediction::predict;
 use refusal::Refusal;
@@ -20,6 +21,7 @@ use whole_fit::fit;
 
 fn main() {
     in_budgets();
+    in_pieces();
     whole();
     predictions();
     solver();
@@ -96,6 +98,18 @@ fn three_calls(x: &[f64], y: &[f64], memory: [f64; 120], fresh: Paused) {
     answered(a, weights[0], weights[1]);
 }
 
+// The same fit by code whose contract says that the pauses change nothing.
+fn in_pieces() {
+    let x = [1.0, 0.0, 0.0, 1.0, 1.0, 1.0, 2.0, 1.0];
+    let y = [1.0, 2.0, 3.0, 4.0];
+    let mut scratch = [0.0; 120];
+    let mut weights = [0.0; 2];
+    let r = fit_in_pieces(4, 2, &x, &y, settings(), &mut scratch, &mut weights, 20, 20);
+    let a = r.answer;
+    io::write_all(1, b"in pieces: ");
+    ended(a);
+}
+
 fn whole() {
     let x = [1.0, 0.0, 0.0, 1.0, 1.0, 1.0, 2.0, 1.0];
     let y = [1.0, 2.0, 3.0, 4.0];
@@ -154,6 +168,20 @@ fn answered(a: Answer, w0: f64, w1: f64) {
             one(b"intercept", intercept);
             io::write_all(1, b"\n");
             two(b"weights", w0, w1);
+        }
+        Answer::Refused(r) => refused(r),
+    }
+}
+
+// How a fit ended, and its counts.
+fn ended(a: Answer) {
+    match a {
+        Answer::Pending => {
+            io::write_all(1, b"pending\n");
+        }
+        Answer::Done(_, way, c) => {
+            told(way);
+            counts(c);
         }
         Answer::Refused(r) => refused(r),
     }

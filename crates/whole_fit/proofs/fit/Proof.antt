@@ -1,100 +1,74 @@
 -- `whole_fit::fit` meets its contract. Assumes nothing.
 use native.Mathlib.Omega.{arith}
-use borrow.Author.Needs.{needs}
-use Prim.Native.Nat.{_≤_}
-use Rattle.checks.proofs.Laws.{fine-of, accepted}
-use Rattle.elastic_net.proofs.Calls.{few-rounds}
-use Rattle.whole_fit.proofs.Returns.{limits-refuse, start-refuses, runs}
+use mathlib.Core.Path.{_≡_, _∙_}
+use lib.ListN.{length}
+use Rattle.whole_fit.proofs.Returns.{start-refuses, few, runs-whole}
 use Rattle.whole_fit.proofs.fit.Statement.{statement}
 use Rattle.whole_fit.proofs.fit.Tie as tie
 
-abbrev from : tie.After-limits → tie.Start
-from c = c .before .before .before .before .before
+abbrev from : tie.After-start-whole → tie.Start
+from c = c .before .before .before .before .before .before
 
-abbrev checked : tie.After-start → tie.After-enum-told
-checked c = c .before .before
+-- a call's budget is made after the start
+abbrev ready : tie.After-struct-known → tie.After-rec
+ready c = c .before .before .before .before
 
--- 3 does not hold
-few : (c : tie.After-enum-told) → from (c .before .before) .args .st .rounds ≤ 1000
-few c = few-rounds (accepted (fine-of _ _ _ _ _ _ _ (c .before .before .limits .result) (c .before .before .limits .ensures) (c .enum-told .given .1)))
+abbrev begun : tie.After-struct-known → tie.After-start-whole
+begun c = ready c .before .before .before .before
 
-limits-requires : tie.Need-limits-requires
-limits-requires c κs = tt
+scratch : (c : tie.After-start-whole) → length (c .start-whole .last .1 .1 .1 .1 .1 .0) ≡ length (from c .args .s .now)
+scratch c = c .start-whole .kept .1 .1 .1 .1 .1 .0
 
-enum-told : tie.Need-enum-told
-enum-told c = search needs
-
-enum-told-2 : tie.Need-enum-told-2
-enum-told-2 c = search needs
-
-refused-by-requires : tie.Need-refused-by-requires
-refused-by-requires c κs = tt
-
-returns : tie.Need-returns
-returns c =
-    let l = c .before .before .before in
-    let g = from l .args in
-    limits-refuse (g .n) (g .p) (g .x .now) (g .y .now) (g .st) (g .s .now) (g .w .now) (l .limits .ensures)
-    (c .before .enum-told2 .given .1) (c .refused-by .ensures)
-
-start-requires : tie.Need-start-requires
-start-requires c κs = tt
+start-whole-requires : tie.Need-start-whole-requires
+start-whole-requires c κs = tt
 
 enum-known-rec : tie.Need-enum-known-rec
-enum-known-rec c = search needs
+enum-known-rec c = c .match .keys1
 
 mul-resume : tie.Need-mul-resume
-mul-resume c = omega (arith, few (checked (c .before .before .before .before .before .before .before .before)))
+mul-resume c =
+    let t = begun c in
+    let g = from t .args in
+    omega (arith, few (g .n) (g .p) (g .x .now) (g .y .now) (g .st) (g .s .now) (g .w .now) (t .start-whole .result) (t .start-whole .ensures) (ready c .rec .given .1))
 
 resume-requires : tie.Need-resume-requires
 resume-requires c κs = tt
 
 enum-known-r : tie.Need-enum-known-r
-enum-known-r c = search needs
+enum-known-r c = c .match .keys2
 
 refused-requires : tie.Need-refused-requires
 refused-requires c κs = tt
 
 same-length : tie.Need-same-length
-same-length c = search needs
+same-length c = c .before .before .before .before .resume .kept .1 .1 .1 .1 .1 .1 .0 ∙ scratch (begun (c .before .before .before .before .before))
 
 same-length-2 : tie.Need-same-length-2
-same-length-2 c = search needs
+same-length-2 c = c .before .before .before .before .resume .kept .1 .1 .1 .1 .1 .1 .1 .0
+
+returns : tie.Need-returns
+returns c =
+    let u = c .before .before .before .before in
+    let t = begun (u .before) in
+    let g = from t .args in
+    runs-whole (g .n) (g .p) (g .x .now) (g .y .now) (g .st) (g .s .now) (g .w .now) (t .start-whole .result) (t .start-whole .ensures) (ready (u .before) .rec .given .1)
+    (u .resume .result) (u .resume .ensures)
+
+same-length-3 : tie.Need-same-length-3
+same-length-3 c = scratch (c .before .before .before .before .before .before)
 
 returns-2 : tie.Need-returns-2
 returns-2 c =
-    let u = c .before .before .before .before in
-    let r = u .before .before .before .before .before in
-    let t = r .before .before .before .before in
-    let k = checked t in
-    let l = k .before .before in
-    let g = from l .args in
-    runs (g .n) (g .p) (g .x .now) (g .y .now) (g .st) (g .s .now) (g .w .now) (l .limits .ensures) (k .enum-told .given .1) (t .start .ensures)
-    (u .resume .result) (r .rec .given .1) (u .resume .ensures)
-
-same-length-3 : tie.Need-same-length-3
-same-length-3 c = search needs
-
-returns-3 : tie.Need-returns-3
-returns-3 c =
     let r = c .before .before in
     let t = r .before .before .before .before in
-    let k = checked t in
-    let l = k .before .before in
-    let g = from l .args in
-    start-refuses (g .n) (g .p) (g .x .now) (g .y .now) (g .st) (g .s .now) (g .w .now) (l .limits .ensures) (k .enum-told .given .1) (t .start .ensures)
-    (r .r .given .1) (c .refused .ensures)
+    let g = from t .args in
+    start-refuses (g .n) (g .p) (g .x .now) (g .y .now) (g .st) (g .s .now) (g .w .now) (t .start-whole .result) (t .start-whole .ensures) (r .r .given .1) (c .refused .ensures)
 
 pub fit-spec : {M : Type 1} → statement M
 fit-spec =
     tie.close
     (tie.spec
-    limits-requires
-    enum-told
-    enum-told-2
-    refused-by-requires
-    returns
-    start-requires
+    start-whole-requires
     enum-known-rec
     mul-resume
     resume-requires
@@ -102,6 +76,6 @@ fit-spec =
     refused-requires
     same-length
     same-length-2
-    returns-2
+    returns
     same-length-3
-    returns-3)
+    returns-2)

@@ -1,0 +1,4 @@
+pub mod Reciprocal
+pub mod First
+pub mod Lone
+pub mod Worked

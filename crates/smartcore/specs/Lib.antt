@@ -1,0 +1,4 @@
+pub mod BgSolver
+pub mod LazyNormalization
+pub mod LassoOptimizer
+pub mod ElasticNet

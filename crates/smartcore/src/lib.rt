@@ -1,0 +1,1 @@
+// smartcore's own functions as definitions over lists and numbers, in specs/. Nothing runs here.

@@ -1,0 +1,4 @@
+mod Solver
+mod Search
+pub mod Round
+pub mod Fit

@@ -1,0 +1,30 @@
+-- The parts of a fit in nested loops over the store, for an input; and how they end, in smartcore's terms. Definitions only.
+use mathlib.Core.List.{List}
+use Prim.Native.Nat.{ℕ}
+use lib.Ieee.{Float}
+use Rattle.settings.specs.declared.Settings.{Settings}
+use Rattle.settings.specs.Settings.{termsOf}
+use Rattle.layout.specs.Slots.{Slot.W, Slot.U}
+use Rattle.layout.specs.Need.{sizesOf}
+use Rattle.pause.specs.Parts.{Counts as CountsP, converged as convergedP, limit as limitP, refused, End, end}
+use Rattle.lasso_optimizer.specs.Data.{Data, scalarsOf, storeOf}
+use Rattle.lasso_optimizer.specs.Fit.{optimized}
+use Rattle.beginning.specs.Start.{startStore}
+use Rattle.smartcore.specs.LassoOptimizer.{Counts, Fitted, converged, limit, failed, Point}
+
+unfoldable pub fitOf : ℕ → ℕ → List Float → List Float → Settings → End Data
+fitOf n p x y st =
+    let sh = sizesOf n p st in
+    let tm = termsOf st n in
+    optimized sh tm (st .tol) x (st .rounds) (startStore sh (st .normalise) tm x y)
+
+unfoldable pub countsOf : CountsP → Counts
+countsOf c = record { openings = c .rounds; solver = c .solver; trials = c .trials }
+
+unfoldable pub pointOf : Data → Point
+pointOf d = record { w = storeOf d W; u = storeOf d U; t = scalarsOf d .t }
+
+unfoldable pub told : End Data → Fitted Point
+told (end convergedP c d) = converged (countsOf c) (pointOf d)
+told (end limitP c d) = limit (countsOf c) (pointOf d)
+told (end (refused k) c d) = failed k (countsOf c)
