@@ -4,8 +4,13 @@
    allocates. Slices of one call must not overlap, and each must hold the number of elements that is passed for it; the
    contents may be anything. Matrices are stored row by row.
 
-   Every call returns 0, or the number of its refusal. A slice of words of another length than the one below is refused
-   with 2, and then nothing is written. A word that holds a double holds its bits (copy them with memcpy). */
+   Every call returns 0, or the number of its refusal. n not from 1 to 4,096 (of xangoravit_solve to 64) or p not from 1 to
+   64 is refused with 1 (but by xangoravit_read_header, which asks only for bytes); then a slice of the wrong length with 2,
+   whether of doubles or of words, the scratch excepted: one that is too short is 4, and a longer one will do. What is wrong
+   with a sheet's bytes, 11 to 15, comes before 1 and 2. An answer that has its 7 words is written with every refusal.
+   Nothing else is, but a sheet's place, and what a fit writes that 7 or 8 ends.
+
+   A word that holds a double holds its bits (copy them with memcpy). */
 #ifndef XANGORAVIT_H
 #define XANGORAVIT_H
 
@@ -37,7 +42,8 @@ enum { XANGORAVIT_N, XANGORAVIT_P, XANGORAVIT_FROM, XANGORAVIT_HEADER = XANGORAV
    scratch, and pass both back as they are. */
 enum { XANGORAVIT_RECORD = 16 };
 
-/* Answer, 7 words. */
+/* Answer, 7 words. From xangoravit_resume the counts are the record's, also with a refusal, or 0 where the record has not
+   its 16 words; from the other calls they are 0. */
 enum {
     XANGORAVIT_KIND,          /* one of the four below */
     XANGORAVIT_NUMBER,        /* of the refusal, or 0 */
@@ -57,12 +63,12 @@ enum {
 };
 
 /* Reads a sheet's header alone: n and p say how much memory the sheet wants. Writes the header unless it refuses. R and C
-   become the panels of its settings. Refusals 11 to 13, which have no place. */
+   become the panels of its settings. Refusals 11 to 13, then 2 for the header's words; they have no place. */
 uint64_t xangoravit_read_header(const uint8_t *bytes, size_t bytes_length, size_t rows, size_t cols,
                                 uint64_t *header, size_t header_length);
 
-/* Reads a whole sheet into x, of n * p doubles, and y, of n. Always writes the place's one word: the refusal's, or 0;
-   the others only where it does not refuse. Refusals 1, 2, 11 to 15. */
+/* Reads a whole sheet into x, of n * p doubles, and y, of n. Always writes the place's word, if there is one word: the
+   refusal's, or 0; the others only where it does not refuse. Refusals 11 to 15, then 1 and 2. */
 uint64_t xangoravit_read_sheet(const uint8_t *bytes, size_t bytes_length, size_t rows, size_t cols,
                                double *x, size_t x_length, double *y, size_t y_length,
                                uint64_t *header, size_t header_length, uint64_t *place, size_t place_length);
@@ -81,7 +87,8 @@ uint64_t xangoravit_start(size_t n, size_t p, const double *x, size_t x_length, 
 
 /* Makes steps until the budget is spent (pending) or the fit ends; where a fit pauses does not change its answer. Pass
    what the start was passed. The p weights are written where the fit ends; it ends too where it is refused 7 or 8, with
-   weights of 0. Refusals 1 to 4, which leave all as it was, and so does 9: a record that is impossible or has ended. */
+   weights of 0. Refusals 1 to 4, then 9: a record that is impossible or has ended. They leave record, scratch and weights
+   as they were, and so does a call with budget 0 that is pending, whatever their words are. */
 uint64_t xangoravit_resume(size_t n, size_t p, const double *x, size_t x_length, const double *y, size_t y_length,
                            const uint64_t *settings, size_t settings_length, uint64_t *record, size_t record_length,
                            double *scratch, size_t scratch_length, double *weights, size_t weights_length,

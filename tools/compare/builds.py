@@ -62,9 +62,27 @@ def oracle():
     return f"{BUILD}/oracle-fixed"
 
 
+def emulator(rt):
+    """Our archives are built for x86-64. What a program for that runs in: nothing, or on another machine the kit's emulator."""
+    if platform.machine() == "x86_64":
+        return []
+    kit = os.environ.get("RATTLE_HOME") or os.path.dirname(os.path.dirname(os.path.realpath(shutil.which(rt))))
+    path = f"{kit}/on/{platform.machine()}/toolchain/bin/qemu-x86_64"
+    if not os.path.exists(path):
+        raise Missing(f"our archives are built for x86-64, and this machine is {platform.machine()}, without {path}")
+    return [path]
+
+
+def linker(emulated):
+    """A C compiler for x86-64; what an emulator runs needs no loader."""
+    if emulated:
+        return [tool("CC", "x86_64-linux-gnu-gcc", "gcc-x86-64-linux-gnu", "libc6-dev-amd64-cross"), "-static"]
+    return [tool("CC", "gcc", "gcc", "libc6-dev"), "-no-pie"]
+
+
 def linked(compiler, archives, room):
     driver = f"{room}/driver"
-    subprocess.run([compiler, "-O2", "-fno-strict-aliasing", "-no-pie", "-o", driver, *sorted(glob.glob(f"{HERE}/*.c")), *archives], check=True)
+    subprocess.run([*compiler, "-O2", "-fno-strict-aliasing", "-o", driver, *sorted(glob.glob(f"{HERE}/*.c")), *archives], check=True)
     return driver
 
 
@@ -78,13 +96,12 @@ def sum_of(paths):
 
 
 def builds(archives, room):
-    """The oracle, the driver, and a sum over all that an answer depends on. What cannot be installed is looked for first."""
-    if platform.machine() != "x86_64":
-        raise Missing(f"our archives are built for x86-64, and this machine is {platform.machine()}")
+    """The oracle, the driver's command, and a sum over all that an answer depends on. What cannot be installed is looked for first."""
     if not os.path.isdir(SOURCES):
         raise Missing(f"the oracle's sources are not at {SOURCES} (set XANGORAVIT_SRC)")
-    rt = None if archives else tool("RT", "rt")
-    compiler = tool("CC", "gcc", "gcc", "libc6-dev")
+    rt = tool("RT", "rt")
+    before = emulator(rt)
+    compiler = linker(before)
     new_enough(tool("RUSTC", "rustc", "rustc"))
     judge = oracle()
     if not archives:
@@ -92,4 +109,4 @@ def builds(archives, room):
             subprocess.run([rt, "staticlib", crate], cwd=REPOSITORY, check=True, stdout=sys.stderr)
         archives = [f"{REPOSITORY}/target/staticlib/lib{crate}.a" for crate in CRATES]
     driver = linked(compiler, archives, room)
-    return judge, driver, sum_of([judge, driver, f"{HERE}/run", f"{REPOSITORY}/oracle/generate.py"])
+    return judge, [*before, driver], sum_of([judge, driver, f"{HERE}/run", f"{REPOSITORY}/oracle/generate.py"])

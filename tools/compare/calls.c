@@ -63,10 +63,11 @@ size_t need_of(size_t n, size_t p, const u64 *settings) {
     return settings[7] ? both + 2 * rows * columns + columns * columns : both + (n + p) * p;
 }
 
+// By a call that is refused, or pending without a step; whatever patterns the words have.
 void unwritten(const struct copy *before, const struct call *c) {
-    same("record of a refused call", c->rec, before->rec, c->rec_len);
-    same("weights of a refused call", c->w, before->w, c->w_len);
-    same("scratch of a refused call", c->s, before->s, c->s_len);
+    same("record that stays", c->rec, before->rec, c->rec_len);
+    same("weights that stay", c->w, before->w, c->w_len);
+    same("scratch that stays", c->s, before->s, c->s_len);
 }
 
 void nothing_left(const struct call *c, const struct copy *before) {
@@ -79,9 +80,13 @@ void nothing_left(const struct call *c, const struct copy *before) {
     one_nan("intercept", c->answer + 6, NULL, 1);
 }
 
-void still_pending(const struct call *c, const struct copy *before) {
+void still_pending(const struct call *c, const struct copy *before, int stepped) {
     u64 due[ANSWER] = {0, 0, 0, c->rec[3], c->rec[4], c->rec[5], 0};
     same("answer of a pending fit", c->answer, due, ANSWER);
+    if (!stepped) {
+        unwritten(before, c);
+        return;
+    }
     same("weights of a pending fit", c->w, before->w, c->w_len);
     same("scratch behind the need", c->s + c->need, before->s + c->need, c->s_len - c->need);
     one_nan("record", c->rec + 6, NULL, 9);

@@ -38,7 +38,7 @@ void give(const struct copy *from, const struct call *c);
 size_t need_of(size_t n, size_t p, const u64 *settings);
 void unwritten(const struct copy *before, const struct call *c);
 void nothing_left(const struct call *c, const struct copy *before);
-void still_pending(const struct call *c, const struct copy *before);
+void still_pending(const struct call *c, const struct copy *before, int stepped);
 
 static inline u64 steps_in(const u64 *counts) { return counts[0] + counts[1] + counts[2]; }
 

@@ -52,7 +52,7 @@ static int begun(struct call *c, const struct fit *q) {
         return 0;
     }
     all_zero("fresh record", c->rec, 6);
-    still_pending(c, &first);
+    still_pending(c, &first, 1);
     one_nan("scratch of a start", c->s, NULL, c->need);
     return 1;
 }
@@ -88,12 +88,9 @@ static void paused(struct call *c, const struct fit *q) {
         number = resume(c, budget);
         calls++;
         if (number || c->answer[0]) break;
-        still_pending(c, &first);
+        still_pending(c, &first, budget != 0);
         u64 taken = steps_in(c->rec + 3) - before;
         same("steps of a pending call", &taken, &budget, 1);
-        if (budget) continue;
-        same("record, budget 0", c->rec, first.rec, RECORD);
-        same("scratch, budget 0", c->s, first.s, c->need);
     } while (steps_in(c->rec + 3) <= all);
     ended(c, q, number);
     over(c);

@@ -6,12 +6,12 @@
 
 enum { HEADER = 10 }; // n, p, alpha, l1_ratio, tol, M, R, C, normalise, lazy
 
-// The lengths that are lent for matrix and targets.
+// The lengths that are lent for matrix, targets, header and place.
 struct lengths {
-    size_t x, y;
+    size_t x, y, header, place;
 };
 
-u64 second_header(const uint8_t *bytes, size_t length, u64 rows, u64 columns, u64 *header);
+u64 second_header(const uint8_t *bytes, size_t length, u64 rows, u64 columns, u64 *header, size_t header_length);
 u64 second_sheet(const uint8_t *bytes, size_t length, u64 rows, u64 columns, struct lengths lent, u64 *x, u64 *y, u64 *header, u64 *place);
 
 #endif

@@ -24,7 +24,7 @@ struct loan {
 static struct loan x = {.name = "matrix"}, y = {.name = "targets"}, header = {.name = "header"}, place = {.name = "place"};
 static struct arena bytes_room;
 static struct paper paper;
-static u64 read_whole, by_number[16], other_words, headers_read, headers_by_number[16], headers_other_words;
+static u64 read_whole, by_number[16], words_by_number[16], headers_read, headers_by_number[16], header_words_by_number[16]; // those with words of the wrong number apart
 
 static void lend(struct loan *l, size_t count) {
     l->count = count;
@@ -51,8 +51,8 @@ static void lend_all(void) {
     if (paper.length >= 9) n = paper.bytes[5] * 256 + paper.bytes[6], p = paper.bytes[7] * 256 + paper.bytes[8];
     lend(&x, some_length(n * p, MOST_X));
     lend(&y, some_length(n, MOST_Y));
-    lend(&header, below(60) ? HEADER : below(HEADER + 3));
-    lend(&place, below(60) ? 1 : below(4));
+    lend(&header, below(8) ? HEADER : below(HEADER + 3));
+    lend(&place, below(8) ? 1 : below(4));
 }
 
 static const uint8_t *sealed(void) {
@@ -64,11 +64,8 @@ static const uint8_t *sealed(void) {
 }
 
 static void one_header(const uint8_t *bytes, size_t rows, size_t columns) {
-    u64 due = 2, number;
-    if (header.count == HEADER) {
-        due = second_header(bytes, paper.length, rows, columns, header.due);
-        *(due ? headers_by_number + due : &headers_read) += 1;
-    } else headers_other_words++;
+    u64 due = second_header(bytes, paper.length, rows, columns, header.due, header.count), number;
+    *(due ? (header.count == HEADER ? headers_by_number : header_words_by_number) + due : &headers_read) += 1;
     alarm(LASTING);
     number = xangoravit_read_header(bytes, paper.length, rows, columns, header.words, header.count);
     same("number of a header", &number, &due, 1);
@@ -83,12 +80,8 @@ static void one_sheet(u64 seed) {
     lend_all();
     one_header(bytes, rows, columns);
     lend_all();
-    u64 due = 2, number;
-    // Words of another number are refused before a byte is looked at, and then not even the place is written.
-    if (header.count == HEADER && place.count == 1) {
-        due = second_sheet(bytes, paper.length, rows, columns, (struct lengths){x.count, y.count}, x.due, y.due, header.due, place.due);
-        *(due ? by_number + due : &read_whole) += 1;
-    } else other_words++;
+    u64 due = second_sheet(bytes, paper.length, rows, columns, (struct lengths){x.count, y.count, header.count, place.count}, x.due, y.due, header.due, place.due), number;
+    *(due ? (header.count == HEADER && place.count == 1 ? by_number : words_by_number) + due : &read_whole) += 1;
     alarm(LASTING);
     number = xangoravit_read_sheet(bytes, paper.length, rows, columns, x.words, x.count, y.words, y.count, header.words, header.count, place.words, place.count);
     same("number", &number, &due, 1);
@@ -101,7 +94,8 @@ void sheets(u64 seed, u64 count) {
     for (; at < count; at++) one_sheet(seed);
     printf("sheets %" PRIu64 " sheets-read %" PRIu64, count, read_whole);
     for (int i = 0; i < 7; i++) printf(" sheets-%d %" PRIu64, numbers[i], by_number[numbers[i]]);
-    printf(" sheets-words %" PRIu64 " headers-read %" PRIu64, other_words, headers_read);
+    for (int i = 0; i < 7; i++) printf(" sheets-words-%d %" PRIu64, numbers[i], words_by_number[numbers[i]]);
+    printf(" headers-read %" PRIu64, headers_read);
     for (int i = 2; i < 5; i++) printf(" headers-%d %" PRIu64, numbers[i], headers_by_number[numbers[i]]);
-    printf(" headers-words %" PRIu64, headers_other_words);
+    for (int i = 1; i < 5; i++) printf(" headers-words-%d %" PRIu64, numbers[i], header_words_by_number[numbers[i]]);
 }

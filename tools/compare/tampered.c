@@ -1,5 +1,8 @@
-// Resumes of records and memory that no fit left, and as many starts, against 01's refusals 1 to 5 and 9 written down here a second time.
+// Resumes of records and memory that no fit left, as many starts, and predictions and solves of wrong sizes, against 01's refusals 1 to 5 and 9 written down here
+// a second time.
 #include <stdio.h>
+#include <string.h>
+#include <unistd.h>
 
 #include "calls.h"
 #include "kinds.h"
@@ -19,10 +22,12 @@ static int misplaced(u64 limit, const u64 *rec) {
 
 static int overcounted(const u64 *rec) { return rec[4] > 4999 * rec[3] || rec[5] > 100 * rec[3]; }
 
+// Words are slices too: 2 is theirs as well, and the settings are looked at only then.
 static u64 limits(const struct call *c) {
     const u64 *set = c->settings;
     if (c->n < 1 || c->n > 4096 || c->p < 1 || c->p > 64) return 1;
     if (c->x_len != c->n * c->p || c->y_len != c->n || c->w_len != c->p) return 2;
+    if (c->settings_len != SETTINGS || c->rec_len != RECORD || c->answer_len != ANSWER) return 2;
     if (!in_range(set[0], 1e6) || !in_range(set[1], 1.0) || !in_range(set[2], 0x1.fffffffffffffp1023) || set[3] > 1000) return 3;
     if (set[7] && (set[4] < 1 || set[4] > 256 || set[5] < 1 || set[5] > 32)) return 3;
     return c->s_len < need_of(c->n, c->p, set) ? 4 : 0;
@@ -59,24 +64,31 @@ static void wrong_setting(u64 *set) {
     else set[which] = beside(which == 3 ? 1000 : which == 4 ? 256 : 32);
 }
 
-// Sizes and lengths that are not due; a slice of another length is a slice all the same.
-static void wrong_size(struct call *c) {
+static u64 odd_size(void) {
     static const u64 odd[] = {0, 4096, 4097, 65, 64, (u64)1 << 32, (u64)1 << 63, UINT64_MAX};
-    switch (below(7)) {
-    case 0: c->n = odd[below(8)]; break;
-    case 1: c->p = odd[below(8)]; break;
-    case 2: c->x_len = below(2) ? c->x_len + 1 : c->x_len - 1; break;
-    case 3: c->y_len = below(2) ? c->y_len + 1 : c->y_len - 1; break;
-    case 4: c->w_len = below(2) ? c->w_len + 1 : c->w_len - 1; break;
-    case 5: c->s_len = below(2) ? c->need - 1 : below(c->need); break;
-    default: // of the words: refused as 2, and not even the answer is written
-        if (below(2)) c->rec_len = below(2) ? RECORD + 1 : below(RECORD);
-        else if (below(2)) c->settings_len = below(2) ? SETTINGS + 1 : below(SETTINGS);
-        else c->answer_len = below(2) ? ANSWER + 1 : below(ANSWER);
-    }
+    return odd[below(8)];
 }
 
-static u64 resumes, let_through, by_number[10], still, ends, starts, starts_by_number[10];
+static size_t odd_length(size_t length) { return length && below(2) ? length - 1 : length + 1; }
+
+static size_t odd_words(size_t due) { return below(2) ? due + 1 : below(due); }
+
+// Sizes and lengths that are not due, one or several at once; a slice of another length is a slice all the same.
+static void wrong_sizes(struct call *c) {
+    do switch (below(9)) {
+    case 0: c->n = odd_size(); break;
+    case 1: c->p = odd_size(); break;
+    case 2: c->x_len = odd_length(c->x_len); break;
+    case 3: c->y_len = odd_length(c->y_len); break;
+    case 4: c->w_len = odd_length(c->w_len); break;
+    case 5: c->s_len = below(2) ? c->need - 1 : below(c->need); break;
+    case 6: c->settings_len = odd_words(SETTINGS); break;
+    case 7: c->rec_len = odd_words(RECORD); break;
+    default: c->answer_len = odd_words(ANSWER);
+    } while (below(3));
+}
+
+static u64 resumes, let_through, by_number[10], still, stepless, ends, starts, starts_by_number[10], others_by_number[3];
 
 static void random_words(u64 *words, size_t count) {
     u64 kind = below(4);
@@ -116,7 +128,8 @@ static void allowed(const struct call *c, u64 number, u64 budget) {
         if (c->answer[i] < first.rec[i]) differs("count %zu fell", i);
     if (kind == 0) {
         still++;
-        still_pending(c, &first);
+        stepless += !budget;
+        still_pending(c, &first, budget != 0);
         same("steps of a pending call", &taken, &budget, 1);
         // Counts at their bounds that no fit has may pass them: the next call is refused then.
         if (number || misplaced(c->settings[3], c->rec)) differs("a pending call leaves a record of 9, or a number");
@@ -145,37 +158,37 @@ static void repeated(const struct call *c, u64 number, u64 budget) {
     }
 }
 
-// A call with its memory, sometimes with a setting or a length that is not due. Says whether the words are as many as due.
-static int drawn(struct call *c, u64 stream, u64 seed) {
+// A call with its memory, sometimes with a setting or lengths that are not due.
+static void drawn(struct call *c, u64 stream, u64 seed) {
     seeded(seed, stream + at);
     tampered_memory(c);
     if (rarely()) wrong_setting(c->settings);
-    if (rarely()) wrong_size(c);
+    if (below(12) == 0) wrong_sizes(c);
     // Slices of other lengths keep their ends, so they are laid anew.
     lay(c);
     seal();
     take(&first, c);
-    if (c->settings_len != SETTINGS || c->rec_len != RECORD || c->answer_len != ANSWER) return 0;
-    c->need = need_of(c->n, c->p, c->settings); // other panels have another
-    return 1;
+    if (c->settings_len == SETTINGS) c->need = need_of(c->n, c->p, c->settings); // other panels have another
 }
 
-static void refused(const struct call *c, u64 number, int due, const u64 *told) {
+// An answer of 7 words is written with every refusal.
+static void refused(const struct call *c, u64 number, const u64 *told) {
     same("number of a refused call", &number, told + 1, 1);
-    same("answer of a refused call", c->answer, due ? told : first.answer, c->answer_len);
+    same("answer of a refused call", c->answer, c->answer_len == ANSWER ? told : first.answer, c->answer_len);
     unwritten(&first, c);
 }
 
 static void one_resume(u64 seed) {
     struct call c;
-    int due = drawn(&c, 7000000, seed);
-    u64 expected = !due ? 2 : limits(&c) ? limits(&c) : misplaced(c.settings[3], c.rec) || overcounted(c.rec) ? 9 : 0;
-    u64 budget = below(8) ? below(below(2) ? 8 : 400) : between(0, 6000), number = resume(&c, budget);
-    u64 told[ANSWER + 1] = {3, expected, 0, first.rec[3], first.rec[4], first.rec[5], 0};
+    drawn(&c, 7000000, seed);
+    u64 expected = limits(&c) ? limits(&c) : misplaced(c.settings[3], c.rec) || overcounted(c.rec) ? 9 : 0;
+    u64 budget = below(4) ? below(8) ? below(below(2) ? 8 : 400) : between(0, 6000) : 0, number = resume(&c, budget);
+    u64 told[ANSWER] = {3, expected};
+    if (c.rec_len == RECORD) memcpy(told + 3, first.rec + 3, 3 * sizeof *told);
     resumes++;
     by_number[expected]++;
     if (expected) {
-        refused(&c, number, due, told);
+        refused(&c, number, told);
         return;
     }
     allowed(&c, number, budget);
@@ -191,41 +204,70 @@ static size_t leading_finite(const u64 *words, size_t count) {
 // 1 to 5; that 6 is given where the Rust gives it is seen in the fits.
 static void one_start(u64 seed) {
     struct call c;
-    int due = drawn(&c, 9000000, seed);
+    drawn(&c, 9000000, seed);
     size_t w_len = c.w_len;
     c.w_len = c.p; // a start has no weights
-    u64 expected = !due ? 2 : limits(&c), place = 0;
+    u64 expected = limits(&c), place = 0;
     c.w_len = w_len;
     if (expected == 0) {
         place = leading_finite(c.x, c.x_len);
         if (place == c.x_len) place += leading_finite(c.y, c.y_len);
         if (place < c.x_len + c.y_len) expected = 5;
     }
-    u64 number = start(&c), told[ANSWER + 1] = {3, expected, place};
+    u64 number = start(&c), told[ANSWER] = {3, expected, place};
     starts++;
     starts_by_number[expected]++;
     if (expected) {
-        refused(&c, number, due, told);
+        refused(&c, number, told);
     } else if (number == 6 && c.settings[6]) {
         unwritten(&first, &c);
     } else {
         all_zero("answer of a start", c.answer, ANSWER);
         all_zero("fresh record", c.rec, 6);
-        still_pending(&c, &first);
+        still_pending(&c, &first, 1);
         one_nan("scratch of a start", c.s, NULL, c.need);
     }
 }
 
+// A prediction or a solve with sizes and lengths that are not due: 1, then 2. Its other refusals are seen in the crates and in what the Rust answered.
+static void one_other(u64 seed) {
+    seeded(seed, 13000000 + at);
+    size_t n = between(1, 5), solve = below(2), p = solve ? n : between(1, 5);
+    struct call c = {n, p, n * p, p, 0, 0, solve ? 8 * n : 0, n, ANSWER, 0, NULL, NULL, NULL, NULL, NULL, NULL, NULL};
+    do switch (below(6)) {
+    case 0: c.n = odd_size(); break;
+    case 1: c.p = odd_size(); break;
+    case 2: c.x_len = odd_length(c.x_len); break;
+    case 3: c.y_len = odd_length(c.y_len); break;
+    case 4: c.w_len = odd_length(c.w_len); break;
+    default: c.answer_len = odd_words(ANSWER);
+    } while (below(2));
+    if (solve) c.p = c.n;
+    lay(&c);
+    mark(c.x, c.x_len), mark(c.y, c.y_len), mark(c.w, c.w_len), mark(c.s, c.s_len), mark(c.answer, c.answer_len);
+    seal();
+    take(&first, &c);
+    u64 expected = c.n < 1 || c.n > 4096 || c.p < 1 || c.p > 64 ? 1 : c.x_len != c.n * c.p || c.y_len != c.p || c.w_len != c.n || c.answer_len != ANSWER ? 2 : 0;
+    if (!expected) return;
+    alarm(LASTING);
+    u64 number = solve ? xangoravit_solve(c.n, c.x, c.x_len, c.y, c.y_len, c.w, c.w_len, 0.5, 9, c.s, c.s_len, c.answer, c.answer_len)
+                       : xangoravit_predict(c.n, c.p, c.x, c.x_len, c.y, c.y_len, 0.5, c.w, c.w_len, c.answer, c.answer_len);
+    u64 told[ANSWER] = {3, expected};
+    others_by_number[expected]++;
+    refused(&c, number, told);
+}
+
 static void tell(void) {
-    printf("tampered %" PRIu64 " through %" PRIu64 " pending %" PRIu64 " ended %" PRIu64, resumes, let_through, still, ends);
+    printf("tampered %" PRIu64 " through %" PRIu64 " pending %" PRIu64 " without-a-step %" PRIu64 " ended %" PRIu64, resumes, let_through, still, stepless, ends);
     for (int i = 1; i < 10; i++)
         if (by_number[i]) printf(" tampered-%d %" PRIu64, i, by_number[i]);
     printf(" starts %" PRIu64, starts);
     for (int i = 1; i < 10; i++)
         if (starts_by_number[i]) printf(" starts-%d %" PRIu64, i, starts_by_number[i]);
+    printf(" others-1 %" PRIu64 " others-2 %" PRIu64, others_by_number[1], others_by_number[2]);
 }
 
 void tampered(u64 seed, u64 count) {
-    for (; at < count; at++) one_resume(seed), one_start(seed);
+    for (; at < count; at++) one_resume(seed), one_start(seed), one_other(seed);
     tell();
 }

@@ -1,5 +1,5 @@
 -- What each call over words returns and leaves, from what the calls within it say. Assumes nothing.
-use mathlib.Core.Path.{_≡_, refl}
+use mathlib.Core.Path.{_≡_, refl, ap}
 use mathlib.Core.Bool.{Bool, true, false, _&&_, cond}
 use mathlib.Core.List.{List, []}
 use Prim.Native.Nat.{ℕ}
@@ -7,6 +7,9 @@ use lib.Dec.{eqb}
 use lib.ListN.{length}
 use lib.Ieee.{Float}
 use borrow.Author.Tests.{eqb-true, eq-eqb, ne-eqb}
+use Rattle.refusal.specs.declared.Refusal.{Refusal}
+use Rattle.refusal.specs.declared.Refusal.the-variants.{Size, Length}
+use Rattle.refusal.specs.Refusal.{numberOf, placeOf}
 use Rattle.refusal.proofs.Asking.{both-true}
 use Rattle.settings.specs.declared.Settings.{Settings}
 use Rattle.pause.specs.Parts.{none}
@@ -15,7 +18,7 @@ use Rattle.stages.specs.declared.Paused.{Paused}
 use Rattle.stages.specs.Stage.{countsBack}
 use Rattle.elastic_net.specs.declared.Resumed.{Resumed}
 use Rattle.elastic_net.specs.declared.Started.{Started}
-use Rattle.elastic_net.specs.ElasticNet.{said, saidS, outcome, begun, resumeOf, startOf}
+use Rattle.elastic_net.specs.ElasticNet.{refused, said, saidS, outcome, begun, resumeOf, startOf}
 use Rattle.prediction.specs.declared.Predicted.{Predicted}
 use Rattle.prediction.specs.declared.Predicted.the-variants.{Done as DoneP, Refused as RefusedP}
 use Rattle.prediction.specs.Predict.{Outcome.outcome as outcomeP, predictOf}
@@ -25,7 +28,7 @@ use Rattle.lone_solver.specs.Solve.{Outcome.outcome as outcomeL, solveOf}
 use Rattle.c_words.specs.declared.Told.{Told}
 use Rattle.c_words.specs.Words.{settingsFrom, pausedFrom, pausedWords, toldWords}
 use Rattle.c_api.specs.Answers.{answerWords, keeps, toldOf, toldPredicted, toldSolved}
-use Rattle.c_api.specs.Calls.{called, resumedAs, resumeWords, startedSaid, startedRecord, startedAs, startWords, predictedAs, predictWords, solvedAs, solveWords}
+use Rattle.c_api.specs.Calls.{Called, called, inRange, unread, countsIn, resumedAs, resumeWords, startedSaid, startedRecord, startedAs, startWords, predictedAs, predictWords, solvedAs, solveWords}
 
 -- ---- the words that are due
 
@@ -43,16 +46,40 @@ lengths a b c h =
     let (x, y) = both-true (eqb a 8) (eqb b 16) l in
     record { settings = eqb-true a 8 x; paused = eqb-true b 16 y; answer = eqb-true c 7 r }
 
+-- ---- words of the wrong number
+
+module _ (ranged : Bool) (c : Counts) (aw : List ℕ) where
+  pub answer-written : {r : Refusal} {t : Told} {aw′ : List ℕ} → length aw ≡ 7 → r ≡ cond ranged Length Size → t ≡ toldOf (refused (numberOf r) (placeOf r))
+      → aw′ ≡ toldWords t c → called (t .number) [] aw′ [] [] ≡ unread ranged c [] aw [] []
+  unfolding unread answerWords
+  answer-written h er et ew = rw (eq-eqb (length aw) 7 h, ew, et, er)
+
+  pub answer-left : {r : Refusal} {t : Told} → (length aw ≡ 7 → ⊥) → r ≡ cond ranged Length Size → t ≡ toldOf (refused (numberOf r) (placeOf r))
+      → called (t .number) [] aw [] [] ≡ unread ranged c [] aw [] []
+  unfolding unread
+  answer-left h er et = rw (ne-eqb (length aw) 7 h, et, er)
+
+abbrev beside : List ℕ → List Float → List Float → Called → Called
+beside pw w s (called k r a v m) = called k pw a w s
+
+-- the other slices stay, whatever they are
+others-kept : (ranged : Bool) (c : Counts) (aw : List ℕ) {aw′ : List ℕ} {k : ℕ} (pw : List ℕ) (w s : List Float) → called k [] aw′ [] [] ≡ unread ranged c [] aw [] []
+    → called k pw aw′ w s ≡ unread ranged c pw aw w s
+unfolding unread
+others-kept ranged c aw pw w s e = ap (beside pw w s) e
+
 -- ---- a resuming call
 
 module _ (n p : ℕ) (x y : List Float) (sw pw : List ℕ) (s w : List Float) (b : ℕ) (aw : List ℕ) where
-  pub resume-not-due : Due (length sw) (length pw) (length aw) ≡ false → called 2 pw aw w s ≡ resumeWords n p x y sw pw s w b aw
+  pub resume-not-due : {c : Counts} {k : ℕ} {aw′ : List ℕ} → Due (length sw) (length pw) (length aw) ≡ false
+      → c ≡ countsIn pw → called k [] aw′ [] [] ≡ unread (inRange n p) c [] aw [] []
+      → called k pw aw′ w s ≡ resumeWords n p x y sw pw s w b aw
   unfolding resumeWords
-  resume-not-due q = rw q
+  resume-not-due {c} q ec e = rw (q, ← ec) (others-kept (inRange n p) c aw pw w s e)
 
   pub resume-due : (r : Resumed) (w′ s′ : List Float) {st : Settings} {a : Paused} {pw′ aw′ : List ℕ} {t : Told}
       → Due (length sw) (length pw) (length aw) ≡ true → st ≡ settingsFrom sw → a ≡ pausedFrom pw → outcome r w′ s′ ≡ resumeOf n p x y st a s w b
-      → pw′ ≡ cond (keeps (said (r .answer))) pw (pausedWords (r .paused)) → t ≡ toldOf (said (r .answer)) → aw′ ≡ toldWords t (r .paused .counts)
+      → pw′ ≡ cond (keeps (said (r .answer)) b) pw (pausedWords (r .paused)) → t ≡ toldOf (said (r .answer)) → aw′ ≡ toldWords t (r .paused .counts)
       → called (t .number) pw′ aw′ w′ s′ ≡ resumeWords n p x y sw pw s w b aw
   unfolding resumeWords resumedAs answerWords
   resume-due r w′ s′ q es ea o er et ew = rw (q, ← es, ← ea, ← o, ew, er, et)
@@ -60,9 +87,11 @@ module _ (n p : ℕ) (x y : List Float) (sw pw : List ℕ) (s w : List Float) (b
 -- ---- a start
 
 module _ (n p : ℕ) (x y : List Float) (sw pw : List ℕ) (s : List Float) (aw : List ℕ) where
-  pub start-not-due : Due (length sw) (length pw) (length aw) ≡ false → called 2 pw aw [] s ≡ startWords n p x y sw pw s aw
+  pub start-not-due : {c : Counts} {k : ℕ} {aw′ : List ℕ} → Due (length sw) (length pw) (length aw) ≡ false
+      → c ≡ countsBack none → called k [] aw′ [] [] ≡ unread (inRange n p) c [] aw [] []
+      → called k pw aw′ [] s ≡ startWords n p x y sw pw s aw
   unfolding startWords
-  start-not-due q = rw q
+  start-not-due {c} q ec e = rw (q, ← ec) (others-kept (inRange n p) c aw pw [] s e)
 
   pub start-due : (r : Started) (s′ : List Float) {st : Settings} {pw′ aw′ : List ℕ} {t : Told} {c : Counts}
       → Due (length sw) (length pw) (length aw) ≡ true → st ≡ settingsFrom sw → begun r s′ ≡ startOf n p x y st s
@@ -79,9 +108,10 @@ predicted-as DoneP out = refl
 predicted-as (RefusedP r) out = refl
 
 module _ (n p : ℕ) (x w : List Float) (b : Float) (out : List Float) (aw : List ℕ) where
-  pub predict-not-due : (length aw ≡ 7 → ⊥) → called 2 [] aw out [] ≡ predictWords n p x w b out aw
-  unfolding predictWords
-  predict-not-due h = rw (ne-eqb (length aw) 7 h)
+  pub predict-not-due : {r : Refusal} {k : ℕ} → (length aw ≡ 7 → ⊥) → r ≡ cond (inRange n p) Length Size → k ≡ numberOf r
+      → called k [] aw out [] ≡ predictWords n p x w b out aw
+  unfolding predictWords unread
+  predict-not-due h er ek = rw (ne-eqb (length aw) 7 h, ek, er)
 
   pub predict-due : {r : Predicted} {out′ : List Float} {aw′ : List ℕ} {t : Told} {c : Counts} → length aw ≡ 7 → outcomeP r out′ ≡ predictOf n p x w b out
       → t ≡ toldPredicted r → c ≡ countsBack none → aw′ ≡ toldWords t c → called (t .number) [] aw′ out′ [] ≡ predictWords n p x w b out aw
@@ -96,9 +126,10 @@ solved-as (SolvedL e) x s = refl
 solved-as (RefusedL r) x s = refl
 
 module _ (n : ℕ) (a b x : List Float) (tol : Float) (limit : ℕ) (s : List Float) (aw : List ℕ) where
-  pub solve-not-due : (length aw ≡ 7 → ⊥) → called 2 [] aw x s ≡ solveWords n a b x tol limit s aw
-  unfolding solveWords
-  solve-not-due h = rw (ne-eqb (length aw) 7 h)
+  pub solve-not-due : {r : Refusal} {k : ℕ} → (length aw ≡ 7 → ⊥) → r ≡ cond (inRange 1 n) Length Size → k ≡ numberOf r
+      → called k [] aw x s ≡ solveWords n a b x tol limit s aw
+  unfolding solveWords unread
+  solve-not-due h er ek = rw (ne-eqb (length aw) 7 h, ek, er)
 
   pub solve-due : {r : AnswerL} {x′ s′ : List Float} {aw′ : List ℕ} {t : Told} {c : Counts} → length aw ≡ 7 → outcomeL r x′ s′ ≡ solveOf n a b x tol limit s
       → t ≡ toldSolved r → c ≡ countsBack none → aw′ ≡ toldWords t c → called (t .number) [] aw′ x′ s′ ≡ solveWords n a b x tol limit s aw

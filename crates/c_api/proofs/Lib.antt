@@ -1,2 +1,3 @@
 mod Telling
 mod Calls
+pub mod Unique

@@ -25,15 +25,16 @@ pub done-told : {a : Answer} {b : Float} {w : Way} {c : Counts} {k l : ℕ} → 
     → _≡_ {A = Told} (record { kind = k; number = 0; place = 0; last = l }) (toldOf (said a))
 done-told {a} {b} {w} {c} q ek el = rw (q, ek, el) (done b w c)
 
-written : (b : Float) (w : Way) (c : Counts) → false ≡ keeps (said (Done b w c))
-written b Converged c = refl
-written b Limit c = refl
+module _ (budget : ℕ) where
+  written : (b : Float) (w : Way) (c : Counts) → false ≡ keeps (said (Done b w c)) budget
+  written b Converged c = refl
+  written b Limit c = refl
 
-pub done-written : {a : Answer} {b : Float} {w : Way} {c : Counts} → a ≡ Done b w c → false ≡ keeps (said a)
-done-written {a} {b} {w} {c} q = rw q (written b w c)
+  pub done-written : {a : Answer} {b : Float} {w : Way} {c : Counts} → a ≡ Done b w c → false ≡ keeps (said a) budget
+  done-written {a} {b} {w} {c} q = rw q (written b w c)
 
-pub search-written : {a : Answer} {r : Refusal} {k : ℕ} → a ≡ Refused r → k ≡ numberOf r → k ≡ 7 → false ≡ keeps (said a)
-search-written q e h = rw (q, ← e, h)
+  pub search-written : {a : Answer} {r : Refusal} {k : ℕ} → a ≡ Refused r → k ≡ numberOf r → k ≡ 7 → false ≡ keeps (said a) budget
+  search-written q e h = rw (q, ← e, h)
 
-pub others : {a : Answer} {r : Refusal} {k : ℕ} → a ≡ Refused r → k ≡ numberOf r → (k ≡ 7 → ⊥) → not (eqb k 8) ≡ keeps (said a)
-others {k = k} q e h = rw (q, ← e, ne-eqb k 7 h)
+  pub others : {a : Answer} {r : Refusal} {k : ℕ} → a ≡ Refused r → k ≡ numberOf r → (k ≡ 7 → ⊥) → not (eqb k 8) ≡ keeps (said a) budget
+  others {k = k} q e h = rw (q, ← e, ne-eqb k 7 h)

@@ -43,12 +43,12 @@ interceptIn (refused n i) = 0
 unfoldable pub answerWords : Said → Counts → List ℕ
 answerWords a c = kindOf a ∷ numberIn a ∷ placeIn a ∷ c .rounds .0 ∷ c .solver .0 ∷ c .trials .0 ∷ interceptIn a ∷ []
 
--- a call that is refused, but for 7 and 8, leaves the record's words as they were
-abbrev pub keeps : Said → Bool
-keeps pending = false
-keeps (converged b c) = false
-keeps (limit b c) = false
-keeps (refused n i) = not (eqb n 7 || eqb n 8)
+-- whether a call with this budget leaves the record's words as they were: where it is refused, but for 7 and 8, and where it is pending without a step
+abbrev pub keeps : Said → ℕ → Bool
+keeps pending budget = eqb budget 0
+keeps (converged b c) budget = false
+keeps (limit b c) budget = false
+keeps (refused n i) budget = not (eqb n 7 || eqb n 8)
 
 -- ---- what the inner functions answer
 

@@ -1,10 +1,12 @@
 // The calls for C and Rust: plain numbers and slices (in C a pointer and a length), with settings, record and answer as words (crate c_words says which).
-// Each returns the number of the refusal, 0 where there is none; words of another number than due are refusal 2, and then nothing is written.
+// Each returns the number of the refusal, 0 where there is none. Words of the wrong number are refused with 2, as any slice is: after 1. An answer that has its
+// 7 words is written with every refusal.
 use c_words::Told;
 use c_words::paused_from;
 use c_words::settings_from;
 use c_words::write_answer;
 use c_words::write_paused;
+use checks::in_size;
 use elastic_net::Answer;
 use elastic_net::Started;
 use elastic_net::Way;
@@ -18,24 +20,27 @@ use records::no_counts;
 use refusal::Refusal;
 use refusal::number;
 use refusal::place;
+use stages::Counts;
 use stages::Paused;
 ghost use mathlib.Core.Path.{_≡_};
 ghost use mathlib.Core.Bool.{_&&_, cond};
 ghost use mathlib.Core.List.{[]};
 ghost use lib.Dec.{eqb};
 ghost use lib.ListN.{length};
+ghost use Rattle.refusal.specs.declared.Refusal.the-variants.{Size, Length};
 ghost use Rattle.refusal.specs.Refusal.{numberOf, placeOf};
 ghost use Rattle.elastic_net.specs.ElasticNet.{Said.refused as refusedSaid, said, saidS};
 ghost use Rattle.c_words.specs.Words.{pausedWords};
 ghost use Rattle.c_api.specs.Answers.{keeps, toldOf, toldPredicted, toldSolved, wayOf};
-ghost use Rattle.c_api.specs.Calls.{Called.called, resumeWords, startedSaid, startedRecord, startWords, predictWords, solveWords};
+ghost use Rattle.c_api.specs.Calls.{Called.called, inRange, unread, countsIn, startedSaid, startedRecord};
+ghost use Rattle.c_api.specs.Calls.{StartCall, ResumeCall, PredictCall, SolveCall};
 
-// Whether the record's words stay as they were: a refusal but for 7 and 8.
-fn stays(a: Answer) -> bool
-    ensures { λ r. ⌜ r ≡ keeps (said a) ⌝ }
+// Whether the record's words stay as they were: a refusal but for 7 and 8, or no step.
+fn stays(a: Answer, budget: u64) -> bool
+    ensures { λ r. ⌜ r ≡ keeps (said a) budget ⌝ }
 {
     match a {
-        Answer::Pending => false,
+        Answer::Pending => budget == 0,
         Answer::Done(_, _, _) => false,
         Answer::Refused(r) => {
             let k = number(r);
@@ -47,11 +52,11 @@ fn stays(a: Answer) -> bool
     }
 }
 
-fn write_resumed(a: Answer, next: Paused, out: &mut [u64])
+fn write_resumed(a: Answer, next: Paused, budget: u64, out: &mut [u64])
     requires { ⌜ length (now out) ≡ 16 ⌝ }
-    ensures { λ _. ⌜ now (out .exit) ≡ cond (keeps (said a)) (now (out .entry)) (pausedWords next) ⌝ }
+    ensures { λ _. ⌜ now (out .exit) ≡ cond (keeps (said a) budget) (now (out .entry)) (pausedWords next) ⌝ }
 {
-    if stays(a) {
+    if stays(a, budget) {
         return;
     }
     write_paused(next, out);
@@ -161,6 +166,41 @@ fn due(settings: usize, rec: usize, answer: usize) -> bool
     answer == 7
 }
 
+// ---- words of the wrong number
+
+fn counts_in(rec: &[u64]) -> Counts
+    ensures { λ r. ⌜ r ≡ countsIn (now (rec .entry)) ⌝ }
+{
+    if rec.len() != 16 {
+        return no_counts();
+    }
+    let a = paused_from(rec);
+    a.counts
+}
+
+// 1 where n or p is out of range, else 2.
+fn words_refused(n: usize, p: usize) -> Refusal
+    ensures { λ r. ⌜ r ≡ cond (inRange n p) Length Size ⌝ }
+{
+    if in_size(n, p) {
+        return Refusal::Length;
+    }
+    Refusal::Size
+}
+
+// The answer is written where it has its words.
+fn refuse(n: usize, p: usize, c: Counts, answer: &mut [u64]) -> u64
+    ensures { λ r. ⌜ called r [] (now (answer .exit)) [] [] ≡ unread (inRange n p) c [] (now (answer .entry)) [] [] ⌝ }
+{
+    let t = refused(words_refused(n, p));
+    if answer.len() == 7 {
+        write_answer(t, c, answer);
+    }
+    t.number
+}
+
+// ---- the calls
+
 #[no_mangle]
 pub extern "C" fn xangoravit_start(
     n: usize,
@@ -172,10 +212,10 @@ pub extern "C" fn xangoravit_start(
     rec: &mut [u64],
     answer: &mut [u64],
 ) -> u64
-    ensures { λ r. ⌜ called r (now (rec .exit)) (now (answer .exit)) [] (now (s .exit)) ≡ startWords n p (now (x .entry)) (now (y .entry)) (now (settings .entry)) (now (rec .entry)) (now (s .entry)) (now (answer .entry)) ⌝ }
+    ensures { λ r. ⌜ StartCall n p (now (x .entry)) (now (y .entry)) (now (settings .entry)) (now (rec .entry)) (now (s .entry)) (now (answer .entry)) r (now (rec .exit)) (now (answer .exit)) (now (s .exit)) ⌝ }
 {
     if !due(settings.len(), rec.len(), answer.len()) {
-        return 2;
+        return refuse(n, p, no_counts(), answer);
     }
     let o = start(n, p, x, y, settings_from(settings), s);
     write_started(o, rec);
@@ -197,10 +237,10 @@ pub extern "C" fn xangoravit_resume(
     budget: u64,
     answer: &mut [u64],
 ) -> u64
-    ensures { λ r. ⌜ called r (now (rec .exit)) (now (answer .exit)) (now (w .exit)) (now (s .exit)) ≡ resumeWords n p (now (x .entry)) (now (y .entry)) (now (settings .entry)) (now (rec .entry)) (now (s .entry)) (now (w .entry)) budget (now (answer .entry)) ⌝ }
+    ensures { λ r. ⌜ ResumeCall n p (now (x .entry)) (now (y .entry)) (now (settings .entry)) (now (rec .entry)) (now (s .entry)) (now (w .entry)) budget (now (answer .entry)) r (now (rec .exit)) (now (answer .exit)) (now (w .exit)) (now (s .exit)) ⌝ }
 {
     if !due(settings.len(), rec.len(), answer.len()) {
-        return 2;
+        return refuse(n, p, counts_in(rec), answer);
     }
     let o = resume(
         n,
@@ -216,7 +256,7 @@ pub extern "C" fn xangoravit_resume(
     let a = o.answer;
     let next = o.paused;
     let c = next.counts;
-    write_resumed(a, next, rec);
+    write_resumed(a, next, budget, rec);
     let t = resumed(a);
     write_answer(t, c, answer);
     t.number
@@ -232,10 +272,10 @@ pub extern "C" fn xangoravit_predict(
     out: &mut [f64],
     answer: &mut [u64],
 ) -> u64
-    ensures { λ r. ⌜ called r [] (now (answer .exit)) (now (out .exit)) [] ≡ predictWords n p (now (x .entry)) (now (w .entry)) b (now (out .entry)) (now (answer .entry)) ⌝ }
+    ensures { λ r. ⌜ PredictCall n p (now (x .entry)) (now (w .entry)) b (now (out .entry)) (now (answer .entry)) r (now (answer .exit)) (now (out .exit)) ⌝ }
 {
     if answer.len() != 7 {
-        return 2;
+        return number(words_refused(n, p));
     }
     let t = predicted(predict(n, p, x, w, b, out));
     write_answer(t, no_counts(), answer);
@@ -253,10 +293,11 @@ pub extern "C" fn xangoravit_solve(
     s: &mut [f64],
     answer: &mut [u64],
 ) -> u64
-    ensures { λ r. ⌜ called r [] (now (answer .exit)) (now (x .exit)) (now (s .exit)) ≡ solveWords n (now (a .entry)) (now (b .entry)) (now (x .entry)) tol limit (now (s .entry)) (now (answer .entry)) ⌝ }
+    ensures { λ r. ⌜ SolveCall n (now (a .entry)) (now (b .entry)) (now (x .entry)) tol limit (now (s .entry)) (now (answer .entry)) r (now (answer .exit)) (now (x .exit)) (now (s .exit)) ⌝ }
 {
+    // An order has the range of p.
     if answer.len() != 7 {
-        return 2;
+        return number(words_refused(1, n));
     }
     let t = solved(solve(n, a, b, x, tol, limit, s));
     write_answer(t, no_counts(), answer);

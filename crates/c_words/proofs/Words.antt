@@ -3,27 +3,14 @@ use mathlib.Core.Path.{_≡_, refl}
 use mathlib.Core.Bool.{Bool, true, false}
 use mathlib.Core.List.{List}
 use Prim.Native.Nat.{ℕ}
-use lib.Dec.{T}
-use lib.Ieee.{binary64, fits}
+use lib.Ieee.{binary64}
 use lib.Ieee.Bits.{ofBits-toBits, ofBits-fits}
-use Rattle.lasso_optimizer.specs.declared.Scalars.{Scalars}
+use Rattle.doubles.specs.Fit.{Fit}
 use Rattle.stages.specs.declared.Paused.{Paused}
 use Rattle.stages.specs.declared.Stage.{Stage}
 use Rattle.stages.specs.declared.Stage.the-variants.{Opening, Solving, Searching, Ended}
 use Rattle.c_values.specs.Values.{word, truth, truthWord}
 use Rattle.c_words.specs.Words.{stageFrom, stageWord, indexWord, pausedFrom, pausedWords}
-
--- each scalar is a value of binary64
-pub record Fit (v : Scalars) : Type 0 where
-  pub t : T (fits binary64 (v .t))
-  pub s : T (fits binary64 (v .s))
-  pub dual : T (fits binary64 (v .dual))
-  pub tol : T (fits binary64 (v .tol))
-  pub bnrm : T (fits binary64 (v .bnrm))
-  pub bkden : T (fits binary64 (v .bkden))
-  pub error : T (fits binary64 (v .error))
-  pub phi : T (fits binary64 (v .phi))
-  pub gdx : T (fits binary64 (v .gdx))
 
 stage-again : (g : Stage) → stageFrom (stageWord g) (indexWord g) ≡ g
 stage-again Opening = refl
@@ -53,7 +40,8 @@ record-round-trip a h =
       truth-again (v .missed),
     )
 
-read-fits : (w : List ℕ) → Fit (pausedFrom w .scalars)
+-- whatever the words, what is read of them has it
+pub read-fits : (w : List ℕ) → Fit (pausedFrom w .scalars)
 unfolding pausedFrom
 read-fits w = record {
   t = ofBits-fits binary64 (word w 6);

@@ -1,10 +1,12 @@
--- What the calls over bytes and words return and leave. Words of another number than due are refusal 2, with nothing written. Definitions only.
+-- What the calls over bytes and words return and leave. Definitions only.
+use mathlib.Core.Path.{_≡_}
 use mathlib.Core.Bool.{_&&_, cond}
 use mathlib.Core.List.{List, [], _∷_}
 use Prim.Native.Nat.{ℕ}
 use lib.Dec.{eqb}
 use lib.ListN.{length}
 use lib.Ieee.{Float}
+use Rattle.refusal.specs.declared.Refusal.the-variants.{Length}
 use Rattle.refusal.specs.Refusal.{numberOf, placeOf}
 use Rattle.sheet.specs.declared.Header.{Header}
 use Rattle.sheet.specs.declared.Read.{Read}
@@ -36,19 +38,37 @@ abbrev pub headerIn : Read → List ℕ → List ℕ
 headerIn (Sheet h) hw = headerWords h
 headerIn (Refused r) hw = hw
 
+-- the place's word is written with every answer, where it is there
+abbrev pub placeWords : Read → List ℕ → List ℕ
+placeWords o pw = cond (eqb (length pw) 1) (placeIn o ∷ []) pw
+
+unfoldable pub readAs : List ℕ → List ℕ → Outcome → Called
+readAs hw pw (outcome o x y) = called (numberIn o) (headerIn o hw) (placeWords o pw) x y
+
+abbrev pub answerIn : Outcome → Read
+answerIn (outcome o x y) = o
+
+-- with words of the wrong number: 2, where nothing before it refuses the sheet
+abbrev pub unread : Read → Read
+unread (Sheet h) = Refused Length
+unread (Refused r) = Refused r
+
 -- the sheet's bytes, R, C, header; what a header alone refuses has no place
 unfoldable pub readHeaderWords : List ℕ → ℕ → ℕ → List ℕ → Called
 readHeaderWords b R C hw =
-    cond (eqb (length hw) 10)
-    (called (numberIn (headerRead b R C)) (headerIn (headerRead b R C) hw) [] [] [])
-    (called 2 hw [] [] [])
-
-unfoldable pub readAs : List ℕ → Outcome → Called
-readAs hw (outcome o x y) = called (numberIn o) (headerIn o hw) (placeIn o ∷ []) x y
+    let o = headerRead b R C in
+    readAs hw [] (outcome (cond (eqb (length hw) 10) o (unread o)) [] [])
 
 -- the sheet's bytes, R, C, matrix, targets, header, place
 unfoldable pub readSheetWords : List ℕ → ℕ → ℕ → List Float → List Float → List ℕ → List ℕ → Called
 readSheetWords b R C x y hw pw =
-    cond (eqb (length hw) 10 && eqb (length pw) 1)
-    (readAs hw (sheetOf b R C x y))
-    (called 2 hw pw x y)
+    let o = sheetOf b R C x y in
+    readAs hw pw (cond (eqb (length hw) 10 && eqb (length pw) 1) o (outcome (unread (answerIn o)) x y))
+
+-- ---- the contracts: the input as above, then what the call returns and leaves
+
+abbrev pub HeaderCall : List ℕ → ℕ → ℕ → List ℕ → ℕ → List ℕ → Type 0
+HeaderCall b R C hw r hw′ = called r hw′ [] [] [] ≡ readHeaderWords b R C hw
+
+abbrev pub SheetCall : List ℕ → ℕ → ℕ → List Float → List Float → List ℕ → List ℕ → ℕ → List ℕ → List ℕ → List Float → List Float → Type 0
+SheetCall b R C x y hw pw r hw′ pw′ x′ y′ = called r hw′ pw′ x′ y′ ≡ readSheetWords b R C x y hw pw

@@ -1,8 +1,10 @@
 // The training sheet's reader for C and Rust, over bytes, with the header as words (specs/Calls.antt says which).
-// Each call returns the number of the refusal, 0 where there is none; words of another number than due are refusal 2, and then nothing is written.
+// Each call returns the number of the refusal, 0 where there is none. Words of the wrong number are refused with 2, as any slice is: after 11 to 15 and 1.
+// The place's word is written with every answer.
 use c_values::Floats;
 use c_values::truth_word;
 use c_values::write_floats;
+use refusal::Refusal;
 use refusal::number;
 use refusal::place;
 use sheet::Header;
@@ -10,9 +12,12 @@ use sheet::Read;
 use sheet::read_header;
 use sheet::read_sheet;
 ghost use mathlib.Core.Path.{_≡_};
+ghost use mathlib.Core.Bool.{_&&_};
 ghost use mathlib.Core.List.{[]};
+ghost use lib.Dec.{eqb};
 ghost use lib.ListN.{length};
-ghost use Rattle.sheet_api.specs.Calls.{Called.called, headerWords, numberIn, placeIn, headerIn, readHeaderWords, readSheetWords};
+ghost use Rattle.sheet.specs.Sheet.{sheetOf};
+ghost use Rattle.sheet_api.specs.Calls.{headerWords, numberIn, placeIn, headerIn, placeWords, answerIn, unread, HeaderCall, SheetCall};
 
 fn write_words(h: Header, out: &mut [u64])
     requires { ⌜ length (now out) ≡ 10 ⌝ }
@@ -57,6 +62,47 @@ fn place_in(o: Read) -> u64
     }
 }
 
+fn write_place(o: Read, out: &mut [u64])
+    ensures { λ _. ⌜ now (out .exit) ≡ placeWords o (now (out .entry)) ⌝ }
+{
+    if out.len() != 1 {
+        return;
+    }
+    out[0] = place_in(o);
+}
+
+// Header and place have the words that are due.
+fn due(header: usize, place: usize) -> bool
+    ensures { λ r. ⌜ r ≡ (eqb header 10 && eqb place 1) ⌝ }
+{
+    if header != 10 {
+        return false;
+    }
+    place == 1
+}
+
+// With words of the wrong number a header that is read is refused with 2.
+fn unheld(o: Read) -> Read
+    ensures { λ r. ⌜ r ≡ unread o ⌝ }
+{
+    match o {
+        Read::Sheet(_) => Read::Refused(Refusal::Length),
+        Read::Refused(r) => Read::Refused(r),
+    }
+}
+
+// Reads the sheet into nothing: past 1 it has a row, so it is refused with 2 at the latest.
+fn refuse(bytes: &[u8], rows: usize, cols: usize, place: &mut [u64]) -> u64
+    ensures { λ r. ⌜ r ≡ numberIn (answerIn (sheetOf (now (bytes .entry)) rows cols [] [])) ⌝ }
+    ensures { λ _. ⌜ now (place .exit) ≡ placeWords (answerIn (sheetOf (now (bytes .entry)) rows cols [] [])) (now (place .entry)) ⌝ }
+{
+    let mut x = [0.0; 1];
+    let mut y = [0.0; 1];
+    let o = read_sheet(bytes, rows, cols, &mut x[0..0], &mut y[0..0]);
+    write_place(o, place);
+    number_in(o)
+}
+
 #[no_mangle]
 pub extern "C" fn xangoravit_read_header(
     bytes: &[u8],
@@ -64,12 +110,12 @@ pub extern "C" fn xangoravit_read_header(
     cols: usize,
     header: &mut [u64],
 ) -> u64
-    ensures { λ r. ⌜ called r (now (header .exit)) [] [] [] ≡ readHeaderWords (now (bytes .entry)) rows cols (now (header .entry)) ⌝ }
+    ensures { λ r. ⌜ HeaderCall (now (bytes .entry)) rows cols (now (header .entry)) r (now (header .exit)) ⌝ }
 {
-    if header.len() != 10 {
-        return 2;
-    }
     let o = read_header(bytes, rows, cols);
+    if header.len() != 10 {
+        return number_in(unheld(o));
+    }
     write_header(o, header);
     number_in(o)
 }
@@ -84,16 +130,13 @@ pub extern "C" fn xangoravit_read_sheet(
     header: &mut [u64],
     place: &mut [u64],
 ) -> u64
-    ensures { λ r. ⌜ called r (now (header .exit)) (now (place .exit)) (now (x .exit)) (now (y .exit)) ≡ readSheetWords (now (bytes .entry)) rows cols (now (x .entry)) (now (y .entry)) (now (header .entry)) (now (place .entry)) ⌝ }
+    ensures { λ r. ⌜ SheetCall (now (bytes .entry)) rows cols (now (x .entry)) (now (y .entry)) (now (header .entry)) (now (place .entry)) r (now (header .exit)) (now (place .exit)) (now (x .exit)) (now (y .exit)) ⌝ }
 {
-    if header.len() != 10 {
-        return 2;
-    }
-    if place.len() != 1 {
-        return 2;
+    if !due(header.len(), place.len()) {
+        return refuse(bytes, rows, cols, place);
     }
     let o = read_sheet(bytes, rows, cols, x, y);
     write_header(o, header);
-    place[0] = place_in(o);
+    write_place(o, place);
     number_in(o)
 }

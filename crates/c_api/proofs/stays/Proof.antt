@@ -17,16 +17,16 @@ number-requires : tie.Need-number-requires
 number-requires c κs = tt
 
 returns : tie.Need-returns
-returns c = search-written (c .before .before .before .a .given .1) (c .before .number .ensures) (c .if1 .taken)
+returns c = search-written _ (c .before .before .before .a .given .1) (c .before .number .ensures) (c .if1 .taken)
 
 returns-2 : tie.Need-returns-2
-returns-2 c = search needs
+returns-2 c = rw (c .enum-told .given .1)
 
 returns-3 : tie.Need-returns-3
-returns-3 c = done-written (c .enum-told2 .given .1)
+returns-3 c = done-written _ (c .enum-told2 .given .1)
 
 returns-4 : tie.Need-returns-4
-returns-4 c = others (c .before .before .before .a .given .1) (c .before .number .ensures) (c .if1 .left)
+returns-4 c = others _ (c .before .before .before .a .given .1) (c .before .number .ensures) (c .if1 .left)
 
 pub stays-spec : {M : Type 1} → statement M
 stays-spec =

@@ -3,10 +3,18 @@ use Rattle.c_api.proofs.Calls.{predict-not-due, predict-due}
 use Rattle.c_api.proofs.xangoravit_predict.Statement.{statement}
 use Rattle.c_api.proofs.xangoravit_predict.Tie as tie
 
+words-refused-requires : tie.Need-words-refused-requires
+words-refused-requires c κs = tt
+
+number-requires : tie.Need-number-requires
+number-requires c κs = tt
+
 returns : tie.Need-returns
 returns c =
-    let g = c .before .before .before .before .before .args in
-    predict-not-due (g .n) (g .p) (g .x .now) (g .w .now) (g .b) (g .out .now) (g .answer .now) (c .if1 .taken)
+    let t = c .before .before in
+    let g = t .before .before .before .before .before .args in
+    predict-not-due (g .n) (g .p) (g .x .now) (g .w .now) (g .b) (g .out .now) (g .answer .now)
+    (t .if1 .taken) (c .before .words-refused .ensures) (c .number .ensures)
 
 predict-requires : tie.Need-predict-requires
 predict-requires c κs = tt
@@ -39,6 +47,8 @@ pub xangoravit-predict-spec : {M : Type 1} → statement M
 xangoravit-predict-spec =
     tie.close
     (tie.spec
+    words-refused-requires
+    number-requires
     returns
     predict-requires
     predicted-requires

@@ -1,6 +1,7 @@
 -- `c_api::xangoravit_resume` meets its contract. Assumes nothing.
 use mathlib.Core.Path.{_≡_, sym, _∙_}
 use mathlib.Core.Bool.{true}
+use borrow.Author.Needs.{needs}
 use borrow.Author.Tests.{not-true, not-false}
 use lib.ListN.{length}
 use Rattle.c_api.proofs.Calls.{Due, Lengths, lengths, resume-not-due, resume-due}
@@ -21,11 +22,26 @@ sized c =
 due-requires : tie.Need-due-requires
 due-requires c κs = tt
 
+counts-in-requires : tie.Need-counts-in-requires
+counts-in-requires c κs = tt
+
+refuse-requires : tie.Need-refuse-requires
+refuse-requires c κs = tt
+
+same-length : tie.Need-same-length
+same-length c = search needs
+
+same-length-2 : tie.Need-same-length-2
+same-length-2 c = c .before .before .refuse .kept .1 .1 .1 .0
+
 returns : tie.Need-returns
 returns c =
-    let g = from (c .before) .args in
+    let r = c .before .before in
+    let k = r .before .before in
+    let t = k .before .before in
+    let g = from (t .before) .args in
     resume-not-due (g .n) (g .p) (g .x .now) (g .y .now) (g .settings .now) (g .rec .now) (g .s .now) (g .w .now) (g .budget) (g .answer .now)
-    (sym (c .before .due .ensures) ∙ not-true _ (c .if1 .taken))
+    (sym (t .before .due .ensures) ∙ not-true _ (t .if1 .taken)) (k .counts-in .ensures) (r .refuse .ensures)
 
 settings-from-requires : tie.Need-settings-from-requires
 settings-from-requires c κs = sized c .settings
@@ -45,17 +61,17 @@ resumed-requires c κs = tt
 write-answer-requires : tie.Need-write-answer-requires
 write-answer-requires c κs = sized (c .before .before .before .before .before .before .before .before .before .before .before .before .before .before .before .before .before .before) .answer
 
-same-length : tie.Need-same-length
-same-length c = c .before .before .before .before .before .before .before .write-resumed .kept .1 .1 .0
-
-same-length-2 : tie.Need-same-length-2
-same-length-2 c = c .before .before .before .before .before .before .before .before .before .before .before .before .before .before .before .resume .kept .1 .1 .1 .1 .1 .1 .0
-
 same-length-3 : tie.Need-same-length-3
-same-length-3 c = c .before .before .before .before .before .before .before .before .before .before .before .before .before .before .before .resume .kept .1 .1 .1 .1 .1 .1 .1 .0
+same-length-3 c = c .before .before .before .before .before .before .before .write-resumed .kept .1 .1 .1 .0
 
 same-length-4 : tie.Need-same-length-4
-same-length-4 c = c .before .before .write-answer .kept .1 .1 .0
+same-length-4 c = c .before .before .before .before .before .before .before .before .before .before .before .before .before .before .before .resume .kept .1 .1 .1 .1 .1 .1 .0
+
+same-length-5 : tie.Need-same-length-5
+same-length-5 c = c .before .before .before .before .before .before .before .before .before .before .before .before .before .before .before .resume .kept .1 .1 .1 .1 .1 .1 .1 .0
+
+same-length-6 : tie.Need-same-length-6
+same-length-6 c = c .before .before .write-answer .kept .1 .1 .0
 
 returns-2 : tie.Need-returns-2
 returns-2 c =
@@ -73,6 +89,10 @@ xangoravit-resume-spec =
     tie.close
     (tie.spec
     due-requires
+    counts-in-requires
+    refuse-requires
+    same-length
+    same-length-2
     returns
     settings-from-requires
     paused-from-requires
@@ -80,8 +100,8 @@ xangoravit-resume-spec =
     write-resumed-requires
     resumed-requires
     write-answer-requires
-    same-length
-    same-length-2
     same-length-3
     same-length-4
+    same-length-5
+    same-length-6
     returns-2)

@@ -3,10 +3,18 @@ use Rattle.c_api.proofs.Calls.{solve-not-due, solve-due}
 use Rattle.c_api.proofs.xangoravit_solve.Statement.{statement}
 use Rattle.c_api.proofs.xangoravit_solve.Tie as tie
 
+words-refused-requires : tie.Need-words-refused-requires
+words-refused-requires c κs = tt
+
+number-requires : tie.Need-number-requires
+number-requires c κs = tt
+
 returns : tie.Need-returns
 returns c =
-    let g = c .before .before .before .before .before .before .args in
-    solve-not-due (g .n) (g .a .now) (g .b .now) (g .x .now) (g .tol) (g .limit) (g .s .now) (g .answer .now) (c .if1 .taken)
+    let t = c .before .before in
+    let g = t .before .before .before .before .before .before .args in
+    solve-not-due (g .n) (g .a .now) (g .b .now) (g .x .now) (g .tol) (g .limit) (g .s .now) (g .answer .now)
+    (t .if1 .taken) (c .before .words-refused .ensures) (c .number .ensures)
 
 solve-requires : tie.Need-solve-requires
 solve-requires c κs = tt
@@ -42,6 +50,8 @@ pub xangoravit-solve-spec : {M : Type 1} → statement M
 xangoravit-solve-spec =
     tie.close
     (tie.spec
+    words-refused-requires
+    number-requires
     returns
     solve-requires
     solved-requires

@@ -1,68 +1,86 @@
 -- `sheet_api::xangoravit_read_sheet` meets its contract. Assumes nothing.
-use Rattle.sheet_api.proofs.Calls.{header-short, place-short, sheet-due}
-use borrow.Author.Needs.{needs}
+use mathlib.Core.Path.{_≡_, sym, _∙_}
+use mathlib.Core.Bool.{true}
+use borrow.Author.Tests.{not-true, not-false}
+use lib.ListN.{length}
+use Rattle.sheet_api.proofs.Calls.{Due, ten-words, sheet-not-due, sheet-due}
 use Rattle.sheet_api.proofs.xangoravit_read_sheet.Statement.{statement}
 use Rattle.sheet_api.proofs.xangoravit_read_sheet.Tie as tie
 
+abbrev from : tie.After-due → tie.Start
+from c = c .before .before .before .before .before .before
+
+is-due : (c : tie.Else1) → let g = from (c .before) .args in Due (length (g .header .now)) (length (g .place .now)) ≡ true
+is-due c = sym (c .before .due .ensures) ∙ not-false _ (c .if1 .left)
+
+due-requires : tie.Need-due-requires
+due-requires c κs = tt
+
+refuse-requires : tie.Need-refuse-requires
+refuse-requires c κs = tt
+
+same-length : tie.Need-same-length
+same-length c = c .before .before .refuse .kept .1 .1 .1 .0
+
 returns : tie.Need-returns
 returns c =
-    let g = c .before .before .before .before .before .before .args in
-    header-short (g .bytes .now) (g .rows) (g .cols) (g .x .now) (g .y .now) (g .header .now) (g .place .now) (c .if1 .taken)
-
-returns-2 : tie.Need-returns-2
-returns-2 c =
-    let g = c .before .before .before .before .before .before .before .args in
-    place-short (g .bytes .now) (g .rows) (g .cols) (g .x .now) (g .y .now) (g .header .now) (g .place .now) (c .before .if1 .left) (c .if2 .taken)
+    let r = c .before .before in
+    let t = r .before .before in
+    let g = from (t .before) .args in
+    sheet-not-due (g .bytes .now) (g .rows) (g .cols) (g .x .now) (g .y .now) (g .header .now) (g .place .now)
+    (sym (t .before .due .ensures) ∙ not-true _ (t .if1 .taken)) (r .refuse .ensures .0) (r .refuse .ensures .1)
 
 read-sheet-requires : tie.Need-read-sheet-requires
 read-sheet-requires c κs = tt
 
 write-header-requires : tie.Need-write-header-requires
-write-header-requires c κs = c .before .before .before .before .before .before .before .before .before .if1 .left
+write-header-requires c κs =
+    let e = c .before .before .before .before .before .before .before .before in
+    let g = from (e .before) .args in
+    ten-words (length (g .header .now)) (length (g .place .now)) (is-due e)
 
-place-in-requires : tie.Need-place-in-requires
-place-in-requires c κs = tt
-
-slice-write-place : tie.Need-slice-write-place
-slice-write-place c = search needs
+write-place-requires : tie.Need-write-place-requires
+write-place-requires c κs = tt
 
 number-in-requires : tie.Need-number-in-requires
 number-in-requires c κs = tt
 
-same-length : tie.Need-same-length
-same-length c = search needs
-
 same-length-2 : tie.Need-same-length-2
-same-length-2 c = search needs
+same-length-2 c = c .before .before .before .before .before .before .before .before .before .before .before .before .before .read-sheet .kept .1 .1 .1 .0
 
 same-length-3 : tie.Need-same-length-3
-same-length-3 c = search needs
+same-length-3 c = c .before .before .before .before .before .before .before .before .before .before .before .before .before .read-sheet .kept .1 .1 .1 .1 .0
 
 same-length-4 : tie.Need-same-length-4
-same-length-4 c = search needs
+same-length-4 c = c .before .before .before .before .before .before .before .write-header .kept .1 .0
 
-returns-3 : tie.Need-returns-3
-returns-3 c =
-    let w = c .before .before .before .before in
+same-length-5 : tie.Need-same-length-5
+same-length-5 c = c .before .before .before .write-place .kept .1 .0
+
+returns-2 : tie.Need-returns-2
+returns-2 c =
+    let p = c .before .before .before in
+    let w = p .before .before .before .before in
     let r = w .before .before .before .before .before .before in
     let e = r .before .before .before in
-    let g = e .before .before .before .before .before .before .before .args in
-    sheet-due (g .bytes .now) (g .rows) (g .cols) (g .x .now) (g .y .now) (g .header .now) (g .place .now) (e .before .if1 .left) (e .if2 .left)
-    (r .read-sheet .ensures) (w .write-header .ensures) (c .before .place-in .ensures) (c .number-in .ensures)
+    let g = from (e .before) .args in
+    sheet-due (g .bytes .now) (g .rows) (g .cols) (g .x .now) (g .y .now) (g .header .now) (g .place .now) (is-due e)
+    (r .read-sheet .ensures) (w .write-header .ensures) (p .write-place .ensures) (c .number-in .ensures)
 
 pub xangoravit-read-sheet-spec : {M : Type 1} → statement M
 xangoravit-read-sheet-spec =
     tie.close
     (tie.spec
+    due-requires
+    refuse-requires
+    same-length
     returns
-    returns-2
     read-sheet-requires
     write-header-requires
-    place-in-requires
-    slice-write-place
+    write-place-requires
     number-in-requires
-    same-length
     same-length-2
     same-length-3
     same-length-4
-    returns-3)
+    same-length-5
+    returns-2)

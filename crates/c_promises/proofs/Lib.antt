@@ -1,0 +1,4 @@
+pub mod Fits
+mod Answers
+pub mod Calls
+pub mod Pauses

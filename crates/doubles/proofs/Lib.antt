@@ -1,0 +1,2 @@
+mod Values
+pub mod Keeps
