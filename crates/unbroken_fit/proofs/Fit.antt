@@ -8,7 +8,7 @@ use borrow.Author.Tests.{ne-eqb}
 use lib.Dec.{eqb}
 use lib.Ieee.{Float}
 use Rattle.numbers.specs.Ops.{_⊗_}
-use Rattle.matrices.specs.Products.{rowsOf, columnsOf}
+use Rattle.matrices.specs.Products.{columnsOf}
 use Rattle.settings.specs.declared.Settings.{Settings}
 use Rattle.settings.specs.declared.Terms.{Terms}
 use Rattle.settings.specs.Settings.{l1Of, termsOf}
