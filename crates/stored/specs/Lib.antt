@@ -1,2 +1,3 @@
-pub mod Marks
+pub mod Runs
 pub mod Stored
+pub mod Words

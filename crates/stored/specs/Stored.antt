@@ -1,15 +1,8 @@
--- What the readers of records and the comparison of numbers with words promise. Definitions only.
+-- What the comparison of numbers with words promises. Definitions only.
 use mathlib.Core.Bool.{Bool, true, false}
 use mathlib.Core.List.{List, map}
-use Prim.Native.Nat.{ℕ, _≤_}
+use Prim.Native.Nat.{ℕ}
 use lib.Ieee.{Float, binary64, ofBits, toBits}
-use Rattle.stored.specs.declared.shape.Shape.{Shape}
-
--- rows and columns are those of a fit, also where the record is damaged
-pub record Shaped (s : Shape) : Type 0 where
-  pub rows : s .n ≤ 4096
-  pub columns : s .p ≤ 64
-  pub some : 1 ≤ s .p
 
 -- the numbers that the words are the bits of, and the other way round
 unfoldable pub numbersOf : List ℕ → List Float

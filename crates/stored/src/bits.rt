@@ -39,3 +39,16 @@ pub fn all(x: &[f64], a: usize, b: usize, bits: u64) -> bool
     }
     true
 }
+
+// Are these the same words?
+pub fn equal(v: &[u64], w: &[u64]) -> bool {
+    if v.len() != w.len() {
+        return false;
+    }
+    for i in 0..v.len() {
+        if v[i] != w[i] {
+            return false;
+        }
+    }
+    true
+}

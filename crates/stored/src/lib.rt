@@ -1,11 +1,11 @@
 // Records from standard input: words, of which the first is the number of records, and a record is its length in words and the words. These
 // go to a buffer that the caller lends.
 pub mod bits;
-pub mod marks;
-pub mod report;
+pub mod bytes;
+pub mod memory;
 pub mod room;
-pub mod shape;
 pub mod tally;
+mod words;
 
 use words::Parsed;
 use words::Word;
@@ -23,7 +23,7 @@ pub struct Record {
     pub bad: u64,
 }
 
-pub fn next_word() -> Word {
+fn next_word() -> Word {
     let mut bytes = [0u8; 17];
     let n = io::read_full(0, &mut bytes);
     read_word(&bytes[..n], 0)
@@ -81,7 +81,8 @@ fn at_most(a: usize, b: usize) -> usize
 }
 
 fn some(out: &mut [u64], k: usize) -> Parsed
-    requires { ⌜ (k ≤ length (now out)) × (k ≤ 240) ⌝ }
+    requires { ⌜ k ≤ length (now out) ⌝ }
+    requires { ⌜ k ≤ 240 ⌝ }
 {
     let mut bytes = io::buffer();
     let n = io::read_full(0, &mut bytes[..17 * k]);

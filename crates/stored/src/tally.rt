@@ -1,6 +1,6 @@
 // What the programs that go through the records of standard input count and print alike.
 use super::next_word;
-use words::Word;
+use super::words::Word;
 ghost use mathlib.Core.Path.{_≡_};
 ghost use Prim.Native.Nat.{_≤_, _<_};
 
@@ -57,8 +57,8 @@ fn fresh(records: u64, whole: bool) -> Tally
     }
 }
 
-// Of the first ten that differ: the record, and the names of the things that do.
-pub fn differs(t: Tally, v: Verdict, first: &[u8], second: &[u8], third: &[u8], fourth: &[u8]) {
+// Of the first ten that differ: the record, and which of the four things do, counted from 1.
+pub fn differs(t: Tally, v: Verdict) {
     let Verdict::Compared(a, b, c, d) = v else {
         return;
     };
@@ -67,17 +67,16 @@ pub fn differs(t: Tally, v: Verdict, first: &[u8], second: &[u8], third: &[u8], 
     }
     io::write_all(1, b"record ");
     io::print_decimal(1, present(t));
-    io::write_all(1, b" differs:");
-    named(a, first);
-    named(b, second);
-    named(c, third);
-    named(d, fourth);
+    io::write_all(1, b" differs in");
+    named(a, b" 1");
+    named(b, b" 2");
+    named(c, b" 3");
+    named(d, b" 4");
     io::write_all(1, b"\n");
 }
 
 fn named(same: bool, name: &[u8]) {
     if !same {
-        io::write_all(1, b" ");
         io::write_all(1, name);
     }
 }

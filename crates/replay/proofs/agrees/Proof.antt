@@ -1,0 +1,59 @@
+-- `replay::agrees` is safe: the text lies within what was lent. Assumes nothing.
+use mathlib.Core.Path.{_≡_, sym}
+use native.Mathlib.Omega.{arith}
+use borrow.Author.Needs.{needs}
+use lib.ListN.{length, take}
+use lib.Seq.{length-take-le}
+use Rattle.sheet_fit.proofs.Within.{within}
+use Rattle.replay.proofs.agrees.Statement.{statement}
+use Rattle.replay.proofs.agrees.Tie as tie
+
+long : (c : tie.After-text3)
+    → let f = c .before .before .before .fit-sheet in
+    length (take (f .result) (f .last .1 .0)) ≡ f .result
+long c = length-take-le _ _ (within _ _ (c .before .before .before .fit-sheet .ensures))
+
+unpack-requires : tie.Need-unpack-requires
+unpack-requires c κs = search needs
+
+slice-aggregate-fit-sheet : tie.Need-slice-aggregate-fit-sheet
+slice-aggregate-fit-sheet c = search needs
+
+fit-sheet-requires : tie.Need-fit-sheet-requires
+fit-sheet-requires c κs = search needs
+
+same-length : tie.Need-same-length
+same-length c = search needs
+
+returns : tie.Need-returns
+returns c = search needs
+
+array-share-prefix-text : tie.Need-array-share-prefix-text
+array-share-prefix-text c = within _ _ (c .before .before .fit-sheet .ensures)
+
+slice-aggregate-spelt : tie.Need-slice-aggregate-spelt
+slice-aggregate-spelt c = sym (long c)
+
+spelt-requires : tie.Need-spelt-requires
+spelt-requires c κs = omega (arith, long c)
+
+same-length-2 : tie.Need-same-length-2
+same-length-2 c = search needs
+
+returns-2 : tie.Need-returns-2
+returns-2 c = search needs
+
+pub agrees-spec : {M : Type 1} → statement M
+agrees-spec =
+    tie.close
+    (tie.spec
+    unpack-requires
+    slice-aggregate-fit-sheet
+    fit-sheet-requires
+    same-length
+    returns
+    array-share-prefix-text
+    slice-aggregate-spelt
+    spelt-requires
+    same-length-2
+    returns-2)

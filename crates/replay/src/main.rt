@@ -1,0 +1,214 @@
+// Replays stored answers, kind by kind, and compares them bit for bit. Of each kind standard input has the number of its records, and the records.
+// A record is its kind, how many words stand before its numbers, how many of these are the first of two parts, and then what its trial is given
+// (crates `trials` and `fit_trials`, and, of a sheet, below): words, and the bits of numbers.
+use sheet_fit::fit_sheet;
+use stored::bits::load;
+use stored::bytes::spelt;
+use stored::bytes::unpack;
+use stored::bytes::words_for;
+use stored::next_record;
+use stored::room::number_room;
+use stored::room::word_room;
+use stored::tally::Tally;
+use stored::tally::Verdict;
+use stored::tally::begun;
+use stored::tally::damaged;
+use stored::tally::differs;
+use stored::tally::tallied;
+ghost use Prim.Native.Nat.{_*_, _≤_, _<_};
+ghost use lib.ListN.{length};
+
+const FIT: u64 = 1;
+
+const SOLVER: u64 = 2;
+
+const PREDICTION: u64 = 3;
+
+const DESIGN: u64 = 4;
+
+const SHEET: u64 = 5;
+
+const ROOT: u64 = 6;
+
+const LOGARITHM: u64 = 7;
+
+fn main() {
+    section(ROOT);
+    section(LOGARITHM);
+    section(SOLVER);
+    section(DESIGN);
+    section(FIT);
+    section(PREDICTION);
+    section(SHEET);
+}
+
+fn section(kind: u64) {
+    let mut t = begun();
+    while t.left > 0 {
+        t = next(t, kind);
+    }
+    end(t, kind);
+}
+
+fn next(t: Tally, kind: u64) -> Tally
+    requires { ⌜ 1 ≤ t .left ⌝ }
+    ensures { λ r. ⌜ r .left < t .left ⌝ }
+{
+    let mut w = word_room();
+    let r = next_record(&mut w);
+    let n = r.words;
+    if !r.whole {
+        return damaged(t, r.bad);
+    }
+    let v = verdict(&w[0..n], kind);
+    differs(t, v);
+    tallied(t, v)
+}
+
+fn verdict(w: &[u64], kind: u64) -> Verdict
+    requires { ⌜ length (now w) ≤ 16400 ⌝ }
+{
+    if w.len() < 3 {
+        return Verdict::DamagedAt(0);
+    }
+    if w[0] != kind {
+        return Verdict::DamagedAt(1);
+    }
+    let h = w[1] as usize;
+    if h < 3 {
+        return Verdict::DamagedAt(2);
+    }
+    if w.len() < h {
+        return Verdict::DamagedAt(2);
+    }
+    let a = w[2] as usize;
+    if w.len() - h < a {
+        return Verdict::DamagedAt(3);
+    }
+    match kind {
+        ROOT => trials::functions::root_verdict(&w[3..]),
+        LOGARITHM => trials::functions::logarithm_verdict(&w[3..]),
+        SHEET => sheet(&w[3..]),
+        _ => loaded(kind, &w[3..h], &w[h..], a),
+    }
+}
+
+fn loaded(kind: u64, w: &[u64], values: &[u64], a: usize) -> Verdict
+    requires { ⌜ length (now values) ≤ 16400 ⌝ }
+    requires { ⌜ a ≤ length (now values) ⌝ }
+{
+    let mut space = number_room();
+    let k = values.len();
+    let xy = &mut space[0..k];
+    load(values, xy);
+    let xy = &xy[..];
+    tried(kind, w, &xy[0..a], &xy[a..])
+}
+
+fn tried(kind: u64, w: &[u64], x: &[f64], y: &[f64]) -> Verdict {
+    match kind {
+        FIT => fit_trials::fits::verdict(w, x, y),
+        SOLVER => trials::solver::verdict(w, x, y),
+        PREDICTION => trials::predictions::verdict(w, x, y),
+        _ => fit_trials::designs::verdict(w, x, y),
+    }
+}
+
+// The words are the sheet's length in bytes and its bytes, then the length and the bytes of its text; zeros stand behind the last byte of a word.
+fn sheet(w: &[u64]) -> Verdict {
+    if w.len() < 1 {
+        return Verdict::DamagedAt(0);
+    }
+    let n = w[0] as usize;
+    if n > 35879 {
+        return Verdict::DamagedAt(4);
+    }
+    let k = words_for(n);
+    if w.len() < k + 2 {
+        return Verdict::DamagedAt(0);
+    }
+    let m = w[k + 1] as usize;
+    if m > 2048 {
+        return Verdict::DamagedAt(k as u64 + 5);
+    }
+    if w.len() != k + 2 + words_for(m) {
+        return Verdict::DamagedAt(0);
+    }
+    Verdict::Compared(fitted(&w[1..k + 1], n, &w[k + 2..], m), true, true, true)
+}
+
+fn fitted(sheet: &[u64], n: usize, wanted: &[u64], m: usize) -> bool
+    requires { ⌜ n ≤ 35879 ⌝ }
+    requires { ⌜ n ≤ 8 * length (now sheet) ⌝ }
+    requires { ⌜ m ≤ 8 * length (now wanted) ⌝ }
+{
+    let mut bytes = io::large_buffer();
+    agrees(sheet, &mut bytes[0..n], wanted, m)
+}
+
+fn agrees(sheet: &[u64], bytes: &mut [u8], wanted: &[u64], m: usize) -> bool
+    requires { ⌜ length (now bytes) ≤ 8 * length (now sheet) ⌝ }
+    requires { ⌜ m ≤ 8 * length (now wanted) ⌝ }
+{
+    unpack(sheet, bytes);
+    let mut text = [0u8; 2048];
+    let k = fit_sheet(bytes, &mut text);
+    if k != m {
+        return false;
+    }
+    spelt(&text[..k], wanted)
+}
+
+fn end(t: Tally, kind: u64) {
+    if !t.whole {
+        return;
+    }
+    match kind {
+        FIT => fits(t),
+        SOLVER => {
+            of(b"solver ", t.first, t.records);
+            of(b" agree, scratch kept and cleared in ", t.second, t.records);
+        }
+        PREDICTION => agree(b"predictions ", t),
+        DESIGN => designs(t),
+        SHEET => agree(b"sheets ", t),
+        ROOT => agree(b"roots ", t),
+        _ => agree(b"logarithms ", t),
+    }
+    io::write_all(1, b"\n");
+}
+
+fn agree(text: &[u8], t: Tally) {
+    of(text, t.agree, t.records);
+    io::write_all(1, b" agree");
+}
+
+fn fits(t: Tally) {
+    of(b"fits in one call ", t.first, t.records);
+    of(b" agree\nin budgets of 1 ", t.second, t.records);
+    of(
+        b" agree\nin random budgets from 0 to 16 ",
+        t.third,
+        t.records,
+    );
+    io::write_all(1, b" agree");
+}
+
+fn designs(t: Tally) {
+    of(b"statistics ", t.first, t.records);
+    of(b", targets ", t.second, t.records);
+    of(b", Grams ", t.third, t.records);
+    of(b", products ", t.fourth, t.records);
+    of(b"\ndesigns ", t.agree, t.records);
+    io::write_all(
+        1,
+        b" agree: statistics, targets, Grams, products; panels 1 by 1, 7 by 3 and 256 by 32",
+    );
+}
+
+fn of(text: &[u8], some: u64, all: u64) {
+    io::write_all(1, text);
+    io::print_decimal(1, some);
+    io::write_all(1, b" of ");
+    io::print_decimal(1, all);
+}
