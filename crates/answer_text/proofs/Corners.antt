@@ -1,7 +1,7 @@
 -- 01's worked answers, computed. Assumes nothing.
 use mathlib.Core.Path.{_≡_, refl}
 use mathlib.Core.List.{[], _∷_}
-use Rattle.answer_text.specs.declared.Ending.the-variants.{Limit}
+use Rattle.refusal.specs.declared.Way.the-variants.{Limit}
 use Rattle.answer_text.specs.Text.{bytes, digitOf, hexOf, decimalFrom, decimalOf, countText, wordText, endText, countsText}
 use Rattle.answer_text.specs.Text.{weightText, weightsText, doneText, refusedText}
 

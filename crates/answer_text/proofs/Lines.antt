@@ -9,8 +9,8 @@ use borrow.Author.Tests.{le-ltb}
 use lib.ListN.{length, getD, drop, length-append}
 use lib.Seq.{sets-eq}
 use Rattle.arrays.specs.Part.{put}
-use Rattle.answer_text.specs.declared.Ending.{Ending}
-use Rattle.answer_text.specs.declared.Ending.the-variants.{Converged, Limit}
+use Rattle.refusal.specs.declared.Way.{Way}
+use Rattle.refusal.specs.declared.Way.the-variants.{Converged, Limit}
 use Rattle.answer_text.specs.Text.{Wrote, Written.written, bytes, hexOf, decimalOf, countText, wordText, endText, countsText}
 use Rattle.answer_text.specs.Text.{weightText, weightsText, doneText, refusedText, laid, doneOf}
 use Rattle.answer_text.proofs.Writes.{wrote-none, then, kept}
@@ -26,7 +26,7 @@ pub word-long : (s : List ℕ) (x : ℕ) → length (wordText s x) ≤ length s 
 unfolding wordText
 word-long s x = omega (arith, length-append (s ++ hexOf 16 x) (bytes "\n"), length-append s (hexOf 16 x), hex-long 16 x)
 
-pub end-long : (e : Ending) → length (endText e) ≤ 16
+pub end-long : (e : Way) → length (endText e) ≤ 16
 unfolding endText
 end-long Converged = omega arith
 end-long Limit = omega arith
@@ -47,7 +47,7 @@ weights-long w zero h = omega arith
 weights-long w (suc j) h =
     simp length-append (omega (arith, weights-long w j (omega arith), weight-long j (getD w j 0) (omega arith)))
 
-done-long : (e : Ending) (r s t b : ℕ) (w : List ℕ) → length w ≤ 64 → length (doneText e r s t b w) ≤ 2048
+done-long : (e : Way) (r s t b : ℕ) (w : List ℕ) → length w ≤ 64 → length (doneText e r s t b w) ≤ 2048
 unfolding doneText
 done-long e r s t b w h =
     simp length-append
@@ -101,7 +101,7 @@ stands t out {r} {last} l s h =
     let e : r ≡ length t = omega (arith, h .ends) in
     rw (le-ltb (length out) 2048 l, e, h .is, front t out (omega arith))
 
-pub done-written : (e : Ending) (r s t x : ℕ) (w : List ℕ) {out : List ℕ} {a : ℕ} {o₁ : List ℕ} {b : ℕ} {o₂ : List ℕ} {c : ℕ} {o₃ : List ℕ}
+pub done-written : (e : Way) (r s t x : ℕ) (w : List ℕ) {out : List ℕ} {a : ℕ} {o₁ : List ℕ} {b : ℕ} {o₂ : List ℕ} {c : ℕ} {o₃ : List ℕ}
     {n : ℕ} {last : List ℕ} → length w ≤ 64 → 2048 ≤ length out → Wrote out 0 (endText e) a o₁ → Wrote o₁ a (countsText r s t) b o₂
     → Wrote o₂ b (wordText (bytes "intercept ") x) c o₃ → Wrote o₃ c (weightsText w (length w)) n last
     → written n last ≡ doneOf e r s t x w out

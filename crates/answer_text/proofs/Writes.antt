@@ -7,7 +7,7 @@ use native.Mathlib.Numerals.{add-one}
 use native.Mathlib.Omega.{arith}
 use lib.ListN.{length, getD, set, take, length-append, length-set}
 use lib.Seq.{take-suc, take-length}
-use Rattle.arrays.specs.Part.{put-none, put-append, put-snoc, length-put}
+use Rattle.arrays.proofs.Part.{put-none, put-append, put-snoc, length-put}
 use Rattle.answer_text.specs.Text.{Wrote}
 
 pub wrote-none : (m : List ℕ) (at : ℕ) → Wrote m at [] at m

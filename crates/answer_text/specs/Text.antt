@@ -8,8 +8,8 @@ use Prim.Native.String.{String, [] as none, _∷_ as _then_}
 use lib.Dec.{ltb}
 use lib.ListN.{length, getD, drop}
 use Rattle.arrays.specs.Part.{put}
-use Rattle.answer_text.specs.declared.Ending.{Ending}
-use Rattle.answer_text.specs.declared.Ending.the-variants.{Converged, Limit}
+use Rattle.refusal.specs.declared.Way.{Way}
+use Rattle.refusal.specs.declared.Way.the-variants.{Converged, Limit}
 
 -- the bytes of a text of plain characters
 abbrev pub bytes : String → List ℕ
@@ -43,7 +43,7 @@ countText label n = label ++ decimalOf n
 unfoldable pub wordText : List ℕ → ℕ → List ℕ
 wordText label x = label ++ hexOf 16 x ++ bytes "\n"
 
-unfoldable pub endText : Ending → List ℕ
+unfoldable pub endText : Way → List ℕ
 endText Converged = bytes "ended converged\n"
 endText Limit = bytes "ended limit\n"
 
@@ -61,7 +61,8 @@ weightsText w (suc j) = weightsText w j ++ weightText j (getD w j 0)
 
 -- ---- answers
 
-unfoldable pub doneText : Ending → ℕ → ℕ → ℕ → ℕ → List ℕ → List ℕ
+-- how the fit ended, its counts, the intercept, and a line for each weight
+unfoldable pub doneText : Way → ℕ → ℕ → ℕ → ℕ → List ℕ → List ℕ
 doneText e rounds solver trials intercept w =
     endText e ++ countsText rounds solver trials ++ wordText (bytes "intercept ") intercept ++ weightsText w (length w)
 
@@ -83,8 +84,8 @@ pub data Written : Type 0 where
 unfoldable pub laid : List ℕ → List ℕ → Written
 laid text out = cond (ltb (length out) 2048) (written 0 out) (written (length text) (text ++ drop (length text) out))
 
--- nothing for more than 64 weights
-unfoldable pub doneOf : Ending → ℕ → ℕ → ℕ → ℕ → List ℕ → List ℕ → Written
+-- what `write_done` answers and leaves: nothing for more than 64 weights
+unfoldable pub doneOf : Way → ℕ → ℕ → ℕ → ℕ → List ℕ → List ℕ → Written
 doneOf e rounds solver trials intercept w out =
     cond (ltb 64 (length w)) (written 0 out) (laid (doneText e rounds solver trials intercept w) out)
 

@@ -1,15 +1,12 @@
 // The lines of an answer, written into a lent slice, so that one program can print many.
+use refusal::Way;
 ghost use mathlib.Core.Path.{_≡_};
 ghost use Prim.Native.Nat.{_+_, _≤_, _<_};
 ghost use lib.ListN.{length};
 ghost use Rattle.answer_text.specs.Text.{Wrote, Written.written, digitOf, hexOf, decimalFrom};
 ghost use Rattle.answer_text.specs.Text.{countText, wordText, endText, countsText, weightText, weightsText, doneOf, refusedOf};
 
-pub enum Ending {
-    Converged,
-    Limit,
-}
-
+// The byte of a digit: 0 to 9, then a to f.
 fn digit(d: u64) -> u8
     requires { ⌜ d < 16 ⌝ }
     ensures { λ r. ⌜ r ≡ digitOf d ⌝ }
@@ -20,6 +17,7 @@ fn digit(d: u64) -> u8
     87 + d as u8
 }
 
+// Writes s from `at` on and answers the place behind it, as every writer here does.
 fn text(out: &mut [u8], at: usize, s: &[u8]) -> usize
     requires { ⌜ at + length (now s) ≤ length (now out) ⌝ }
     ensures { λ r. ⌜ Wrote (now (out .entry)) at (now (s .entry)) r (now (out .exit)) ⌝ }
@@ -30,7 +28,7 @@ fn text(out: &mut [u8], at: usize, s: &[u8]) -> usize
     at + s.len()
 }
 
-// The last k digits.
+// n in k hexadecimal digits, with zeros in front; of a longer number the last k.
 fn hex(out: &mut [u8], at: usize, k: usize, n: u64) -> usize
     requires { ⌜ at + k ≤ length (now out) ⌝ }
     ensures { λ r. ⌜ Wrote (now (out .entry)) at (hexOf k n) r (now (out .exit)) ⌝ }
@@ -43,7 +41,7 @@ fn hex(out: &mut [u8], at: usize, k: usize, n: u64) -> usize
     a + 1
 }
 
-// No zeros in front; k digits at most.
+// n in decimal, with no zeros in front; of a number with more than k digits the last k. 20 are enough for every u64.
 fn decimal(out: &mut [u8], at: usize, k: usize, n: u64) -> usize
     requires { ⌜ at + k ≤ length (now out) ⌝ }
     ensures { λ r. ⌜ Wrote (now (out .entry)) at (decimalFrom k n) r (now (out .exit)) ⌝ }
@@ -68,6 +66,7 @@ fn count(out: &mut [u8], at: usize, label: &[u8], n: u64) -> usize
     decimal(out, a, 20, n)
 }
 
+// A label, the 16 digits of x, and the end of the line.
 fn word(out: &mut [u8], at: usize, label: &[u8], x: u64) -> usize
     requires { ⌜ at + length (now label) + 17 ≤ length (now out) ⌝ }
     ensures { λ r. ⌜ Wrote (now (out .entry)) at (wordText (now (label .entry)) x) r (now (out .exit)) ⌝ }
@@ -77,13 +76,13 @@ fn word(out: &mut [u8], at: usize, label: &[u8], x: u64) -> usize
     text(out, b, b"\n")
 }
 
-fn end(out: &mut [u8], at: usize, e: Ending) -> usize
+fn end(out: &mut [u8], at: usize, e: Way) -> usize
     requires { ⌜ at + 16 ≤ length (now out) ⌝ }
     ensures { λ r. ⌜ Wrote (now (out .entry)) at (endText e) r (now (out .exit)) ⌝ }
 {
     match e {
-        Ending::Converged => text(out, at, b"ended converged\n"),
-        Ending::Limit => text(out, at, b"ended limit\n"),
+        Way::Converged => text(out, at, b"ended converged\n"),
+        Way::Limit => text(out, at, b"ended limit\n"),
     }
 }
 
@@ -97,6 +96,7 @@ fn counts(out: &mut [u8], at: usize, rounds: u64, solver: u64, trials: u64) -> u
     text(out, c, b"\n")
 }
 
+// The line of column j: its number, and its weight's bits.
 fn weight(out: &mut [u8], at: usize, j: usize, x: u64) -> usize
     requires { ⌜ at + 40 ≤ length (now out) ⌝ }
     ensures { λ r. ⌜ Wrote (now (out .entry)) at (weightText j x) r (now (out .exit)) ⌝ }
@@ -107,7 +107,8 @@ fn weight(out: &mut [u8], at: usize, j: usize, x: u64) -> usize
 
 // Every line has 22 bytes at most, since a column below 100 has two digits; `weight` asks for 40.
 fn weights(out: &mut [u8], at: usize, w: &[u64]) -> usize
-    requires { ⌜ (at + 1426 ≤ length (now out)) × (length (now w) ≤ 64) ⌝ }
+    requires { ⌜ at + 1426 ≤ length (now out) ⌝ }
+    requires { ⌜ length (now w) ≤ 64 ⌝ }
     ensures { λ r. ⌜ Wrote (now (out .entry)) at (weightsText (now (w .entry)) (length (now (w .entry)))) r (now (out .exit)) ⌝ }
 {
     let mut a = at;
@@ -117,10 +118,11 @@ fn weights(out: &mut [u8], at: usize, w: &[u64]) -> usize
     a
 }
 
-// A fit that ended: its lines at the front of `out`, and their length; nothing and 0 for more than 64 weights or fewer than 2,048 bytes.
+// Writes the lines of a fit that is done at the front of `out` and answers their length. With more than 64 weights or fewer than 2,048 bytes it
+// writes nothing and answers 0.
 pub fn write_done(
     out: &mut [u8],
-    e: Ending,
+    e: Way,
     rounds: u64,
     solver: u64,
     trials: u64,
@@ -141,7 +143,7 @@ pub fn write_done(
     weights(out, c, w)
 }
 
-// A refusal: its line likewise.
+// Writes the line of a refusal in the same way. It is shorter, but asks for the same 2,048 bytes, so that one size serves every answer.
 pub fn write_refused(out: &mut [u8], number: u64, place: u64) -> usize
     ensures { λ r. ⌜ written r (now (out .exit)) ≡ refusedOf number place (now (out .entry)) ⌝ }
 {

@@ -1,3 +1,6 @@
+pub mod Part
+pub mod Folds
+pub mod Lengths
 pub mod Turns
 pub mod Commute
 pub mod Norms

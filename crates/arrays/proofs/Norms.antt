@@ -6,7 +6,8 @@ use Prim.Native.Nat.{ℕ}
 use lib.Ieee.{Float, nan, inf, fin, mul}
 use Rattle.numbers.specs.Ops.{_⊗_, magnitudeOf}
 use Rattle.numbers.specs.Root.{rootOf}
-use Rattle.arrays.specs.Sums.{_!_, norm2Of, normTwoOf, fold-ext}
+use Rattle.arrays.specs.Sums.{_!_, norm2Of, normTwoOf}
+use Rattle.arrays.proofs.Folds.{fold-ext}
 
 magnitude-square : (x : Float) → magnitudeOf x ⊗ magnitudeOf x ≡ x ⊗ x
 unfolding mul magnitudeOf

@@ -9,9 +9,11 @@ use native.Mathlib.Omega.{arith}
 use lib.ListN.{length, getD, set, length-set}
 use lib.Ieee.{Float, nan}
 use Rattle.numbers.specs.Ops.{_⊕_, _⊗_}
-use Rattle.arrays.specs.Part.{part, put, tab, length-tab, length-put, getD-part, put-tab-none, put-tab-more, put-put-same}
-use Rattle.arrays.specs.Part.{part-put-apart, getD-put-above, getD-put-below, apart-of, apart-fewer, length-part, tab-all}
-use Rattle.arrays.specs.Sums.{_!_, products, fold-turn}
+use Rattle.arrays.specs.Part.{part, put, tab}
+use Rattle.arrays.proofs.Part.{length-tab, length-put, getD-part, put-tab-none, put-tab-more, put-put-same}
+use Rattle.arrays.proofs.Part.{part-put-apart, getD-put-above, getD-put-below, apart-of, apart-fewer, length-part, tab-all}
+use Rattle.arrays.specs.Sums.{_!_, products}
+use Rattle.arrays.proofs.Folds.{fold-turn}
 use Rattle.arrays.specs.Vectors.{Clear}
 
 -- the first i of n elements from `out` are written, and all else is as it was in s₀

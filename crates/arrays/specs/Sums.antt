@@ -1,15 +1,14 @@
--- Left folds over the numbers f 0, f 1, .. f (n - 1), each with its start, and what arrays.rs makes of a vector by them. Definitions, and the steps of a loop.
-use mathlib.Core.Path.{_≡_, refl, sym}
+-- Left folds over the numbers f 0, f 1, .. f (n - 1), each with its start, and what arrays.rs makes of a vector by them. Definitions only.
 use mathlib.Core.List.{List}
-use Prim.Native.Nat.{ℕ, zero, suc, _+_, _<_}
-use native.Mathlib.Numerals.{add-one}
-use native.Mathlib.Omega.{arith}
+use Prim.Native.Nat.{ℕ, zero, suc}
 use mathlib.Core.Bool.{true}
 use lib.IntN.{pos}
 use lib.ListN.{getD}
 use lib.Ieee.{Float, nan, inf, binary64, ofInt}
 use Rattle.numbers.specs.Ops.{_⊕_, _⊗_, _⊘_, f64, magnitudeOf}
 use Rattle.numbers.specs.Order.{maximumOf}
+use Rattle.numbers.specs.declared.powers.Exponent.the-variants.{One, Two, Half}
+use Rattle.numbers.specs.Powers.{powerOf}
 use Rattle.numbers.specs.Root.{rootOf}
 
 -- the element at i of a vector that has one there
@@ -20,26 +19,6 @@ xs ! i = getD xs i nan
 unfoldable pub foldTo : (Float → Float → Float) → Float → (ℕ → Float) → ℕ → Float
 foldTo g start f zero = start
 foldTo g start f (suc n) = g (foldTo g start f n) (f n)
-
-pub fold-none : (g : Float → Float → Float) (start : Float) (f : ℕ → Float) → foldTo g start f 0 ≡ start
-unfolding foldTo
-fold-none g start f = refl
-
-pub fold-more : (g : Float → Float → Float) (start : Float) (f : ℕ → Float) (i : ℕ) → foldTo g start f (i + 1) ≡ g (foldTo g start f i) (f i)
-unfolding foldTo
-fold-more g start f i = rw add-one
-
--- one turn of a loop that folds
-pub fold-turn : (g : Float → Float → Float) (start : Float) (f : ℕ → Float) (i : ℕ) (t x : Float) → t ≡ foldTo g start f i → x ≡ f i
-    → g t x ≡ foldTo g start f (i + 1)
-fold-turn g start f i t x et ex = rw (et, ex) (sym (fold-more g start f i))
-
-pub fold-ext : (g : Float → Float → Float) (start : Float) (f h : ℕ → Float) (n : ℕ) → ((i : ℕ) → i < n → f i ≡ h i) → foldTo g start f n ≡ foldTo g start h n
-unfolding foldTo
-fold-ext g start f h zero e = refl
-fold-ext g start f h (suc n) e =
-    let q : f n ≡ h n = e n (omega arith) in
-    rw (fold-ext g start f h n (λ i l. e i (omega arith)), q)
 
 abbrev pub plus0 : Float
 plus0 = f64 0
@@ -65,15 +44,15 @@ dotOf n xs ys = products minus0 (λ i. xs ! i) (λ i. ys ! i) n
 unfoldable pub productOf : ℕ → List Float → List Float → Float
 productOf n xs ys = products plus0 (λ i. xs ! i) (λ i. ys ! i) n
 
--- norm(1), norm2(), norm(2) and norm(inf)
+-- norm(1), norm2(), norm(2) and norm(inf); norm(p) is by powers, and norm2() is not
 unfoldable pub norm1Of : ℕ → List Float → Float
-norm1Of n xs = sumTo plus0 (λ i. magnitudeOf (xs ! i)) n
+norm1Of n xs = powerOf One (sumTo plus0 (λ i. powerOf One (magnitudeOf (xs ! i))) n)
 
 unfoldable pub norm2Of : ℕ → List Float → Float
 norm2Of n xs = rootOf (products plus0 (λ i. xs ! i) (λ i. xs ! i) n)
 
 unfoldable pub normTwoOf : ℕ → List Float → Float
-normTwoOf n xs = rootOf (products plus0 (λ i. magnitudeOf (xs ! i)) (λ i. magnitudeOf (xs ! i)) n)
+normTwoOf n xs = powerOf Half (sumTo plus0 (λ i. powerOf Two (magnitudeOf (xs ! i))) n)
 
 unfoldable pub normInfOf : ℕ → List Float → Float
 normInfOf n xs = foldTo maximumOf (inf true) (λ i. magnitudeOf (xs ! i)) n

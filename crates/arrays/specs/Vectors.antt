@@ -1,10 +1,10 @@
--- Vectors made element by element, and what a loop that makes one asks of its places. Definitions and lengths.
+-- Vectors made element by element, and what a loop that makes one asks of its places. Definitions only.
 use mathlib.Core.Path.{_≡_}
 use mathlib.Core.List.{List}
 use Prim.Native.Nat.{ℕ, _+_, _≤_, _<_}
 use lib.ListN.{length}
 use lib.Ieee.{Float}
-use Rattle.arrays.specs.Part.{tab, length-tab}
+use Rattle.arrays.specs.Part.{tab}
 use Rattle.arrays.specs.Sums.{_!_}
 
 unfoldable pub mapOf : (Float → Float) → ℕ → List Float → List Float
@@ -15,18 +15,6 @@ zipOf g n xs ys = tab (λ i. g (xs ! i) (ys ! i)) n
 
 unfoldable pub fillOf : Float → ℕ → List Float
 fillOf x n = tab (λ i. x) n
-
-pub length-map : (g : Float → Float) (n : ℕ) (xs : List Float) → length (mapOf g n xs) ≡ n
-unfolding mapOf
-length-map g n xs = length-tab (λ i. g (xs ! i)) n
-
-pub length-zip : (g : Float → Float → Float) (n : ℕ) (xs ys : List Float) → length (zipOf g n xs ys) ≡ n
-unfolding zipOf
-length-zip g n xs ys = length-tab (λ i. g (xs ! i) (ys ! i)) n
-
-pub length-fill : (x : Float) (n : ℕ) → length (fillOf x n) ≡ n
-unfolding fillOf
-length-fill x n = length-tab (λ i. x) n
 
 -- the n elements from `out`, which are written, and the n from `a` are the same or have none in common
 abbrev pub Clear : ℕ → ℕ → ℕ → Type 0

@@ -3,18 +3,20 @@ ghost use mathlib.Core.Path.{_≡_};
 ghost use lib.Ieee.Scale.{finite as isFinite};
 ghost use Rattle.arrays.specs.Scan.{firstInfinite};
 
+// What a scan finds: nothing, or the first index.
 pub enum Found {
     Clean,
     At(usize),
 }
 
+// Neither infinity nor a NaN, which fails the first comparison.
 pub fn finite(x: f64) -> bool
     ensures { λ r. ⌜ r ≡ isFinite x ⌝ }
 {
     if x < 1.0 / 0.0 { -1.0 / 0.0 < x } else { false }
 }
 
-// The first value that is not finite.
+// The index of the first value that is infinite or a NaN. An empty slice is clean.
 pub fn first_infinite(x: &[f64]) -> Found
     ensures { λ r. ⌜ r ≡ firstInfinite 0 (now (x .entry)) ⌝ }
 {

@@ -1,14 +1,15 @@
 // Sums of the n elements from `a` of a slice, in index order, each from the start that its line of the Rust has.
 use numbers::bits::magnitude;
 use numbers::order::maximum;
-use numbers::square_root::root;
+use numbers::powers::Exponent;
+use numbers::powers::power;
 ghost use mathlib.Core.Path.{_≡_};
 ghost use Prim.Native.Nat.{_+_, _≤_, _<_, _^_};
 ghost use lib.ListN.{length};
 ghost use Rattle.arrays.specs.Part.{part};
 ghost use Rattle.arrays.specs.Sums.{sumOf, dotOf, productOf, norm1Of, norm2Of, normInfOf, meanOf, whole};
 
-// From -0.
+// From -0, which is the sum of no elements.
 pub fn sum(x: &[f64], a: usize, n: usize) -> f64
     requires { ⌜ a + n ≤ length (now x) ⌝ }
     ensures { λ r. ⌜ r ≡ sumOf n (part (now (x .entry)) a n) ⌝ }
@@ -20,9 +21,10 @@ pub fn sum(x: &[f64], a: usize, n: usize) -> f64
     t
 }
 
-// From -0.
+// From -0, which is the answer where n is 0.
 pub fn dot(x: &[f64], a: usize, y: &[f64], b: usize, n: usize) -> f64
-    requires { ⌜ (a + n ≤ length (now x)) × (b + n ≤ length (now y)) ⌝ }
+    requires { ⌜ a + n ≤ length (now x) ⌝ }
+    requires { ⌜ b + n ≤ length (now y) ⌝ }
     ensures { λ r. ⌜ r ≡ dotOf n (part (now (x .entry)) a n) (part (now (y .entry)) b n) ⌝ }
 {
     let mut t = -0.0;
@@ -32,9 +34,10 @@ pub fn dot(x: &[f64], a: usize, y: &[f64], b: usize, n: usize) -> f64
     t
 }
 
-// From +0.
+// As `dot`, but from +0: some lines of the Rust begin with the one and some with the other.
 pub fn product(x: &[f64], a: usize, y: &[f64], b: usize, n: usize) -> f64
-    requires { ⌜ (a + n ≤ length (now x)) × (b + n ≤ length (now y)) ⌝ }
+    requires { ⌜ a + n ≤ length (now x) ⌝ }
+    requires { ⌜ b + n ≤ length (now y) ⌝ }
     ensures { λ r. ⌜ r ≡ productOf n (part (now (x .entry)) a n) (part (now (y .entry)) b n) ⌝ }
 {
     let mut t = 0.0;
@@ -44,6 +47,7 @@ pub fn product(x: &[f64], a: usize, y: &[f64], b: usize, n: usize) -> f64
     t
 }
 
+// The sum of the magnitudes, from +0.
 pub fn norm_1(x: &[f64], a: usize, n: usize) -> f64
     requires { ⌜ a + n ≤ length (now x) ⌝ }
     ensures { λ r. ⌜ r ≡ norm1Of n (part (now (x .entry)) a n) ⌝ }
@@ -55,15 +59,15 @@ pub fn norm_1(x: &[f64], a: usize, n: usize) -> f64
     t
 }
 
-// norm2 and norm(2), whose definitions agree.
+// The root of the sum of squares, for the Rust's norm2 and its norm(2), whose definitions agree.
 pub fn norm_2(x: &[f64], a: usize, n: usize) -> f64
     requires { ⌜ a + n ≤ length (now x) ⌝ }
     ensures { λ r. ⌜ r ≡ norm2Of n (part (now (x .entry)) a n) ⌝ }
 {
-    root(product(x, a, x, a, n))
+    power(product(x, a, x, a, n), Exponent::Half)
 }
 
-// From -infinity; NaNs are passed over.
+// The largest magnitude. A NaN is passed over; where there is no number it is -infinity.
 pub fn norm_inf(x: &[f64], a: usize, n: usize) -> f64
     requires { ⌜ a + n ≤ length (now x) ⌝ }
     ensures { λ r. ⌜ r ≡ normInfOf n (part (now (x .entry)) a n) ⌝ }
@@ -75,7 +79,7 @@ pub fn norm_inf(x: &[f64], a: usize, n: usize) -> f64
     t
 }
 
-// n as f64, for the sizes of a fit.
+// n as f64, exactly: it goes by way of u32, whose values an f64 has all.
 pub fn float_of(n: usize) -> f64
     requires { ⌜ n < 2 ^ 32 ⌝ }
     ensures { λ r. ⌜ r ≡ whole n ⌝ }
@@ -83,8 +87,10 @@ pub fn float_of(n: usize) -> f64
     n as u32 as f64
 }
 
+// The sum from -0 over n: a NaN where n is 0.
 pub fn mean(x: &[f64], a: usize, n: usize) -> f64
-    requires { ⌜ (a + n ≤ length (now x)) × (n < 2 ^ 32) ⌝ }
+    requires { ⌜ a + n ≤ length (now x) ⌝ }
+    requires { ⌜ n < 2 ^ 32 ⌝ }
     ensures { λ r. ⌜ r ≡ meanOf n (part (now (x .entry)) a n) ⌝ }
 {
     sum(x, a, n) / float_of(n)

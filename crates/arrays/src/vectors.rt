@@ -17,9 +17,10 @@ pub fn fill(s: &mut [f64], out: usize, n: usize, x: f64)
     }
 }
 
-// From another slice.
+// n elements of another slice.
 pub fn copy_from(s: &mut [f64], out: usize, t: &[f64], a: usize, n: usize)
-    requires { ⌜ (out + n ≤ length (now s)) × (a + n ≤ length (now t)) ⌝ }
+    requires { ⌜ out + n ≤ length (now s) ⌝ }
+    requires { ⌜ a + n ≤ length (now t) ⌝ }
     ensures { λ _. ⌜ now (s .exit) ≡ put (now (s .entry)) out (part (now (t .entry)) a n) ⌝ }
 {
     for i in 0..n {

@@ -7,13 +7,14 @@ use native.Mathlib.Decide.{ℕ-discrete}
 use borrow.Author.Tests.{eq-eqb, ne-eqb}
 use lib.ListN.{length}
 use lib.Ieee.{Float}
-use Rattle.arrays.specs.Part.{length-tab}
+use Rattle.arrays.proofs.Part.{length-tab}
 use Rattle.arrays.specs.Sums.{plus0}
-use Rattle.arrays.specs.Vectors.{length-map, length-fill}
-use Rattle.matrices.specs.Grid.{length-grid}
+use Rattle.arrays.proofs.Lengths.{length-map, length-fill}
+use Rattle.matrices.proofs.Grid.{length-grid}
 use Rattle.settings.specs.declared.Terms.{Terms}
 use Rattle.layout.specs.declared.Sizes.{Sizes}
-use Rattle.layout.specs.Slots.{Slot, Store, size, upd-sized}
+use Rattle.layout.specs.Slots.{Slot, Store, size}
+use Rattle.layout.proofs.Slots.{upd-sized}
 use Rattle.layout.specs.Slots.{Slot.U, Slot.F, Slot.CENTRE, Slot.SCALE, Slot.RECIP, Slot.LEFT, Slot.RIGHT, Slot.GRAM, Slot.Y, Slot.DESIGN}
 use Rattle.lazy_normalization.specs.Lazy.{recipStore}
 use Rattle.lazy_gram.specs.Gram.{lazyGramStore}

@@ -11,11 +11,13 @@ use lib.Ieee.{Float, neg}
 use Rattle.numbers.specs.Constants.{one}
 use Rattle.arrays.specs.Part.{put}
 use Rattle.arrays.specs.Sums.{plus0}
-use Rattle.arrays.specs.Vectors.{fillOf, length-fill}
+use Rattle.arrays.specs.Vectors.{fillOf}
+use Rattle.arrays.proofs.Lengths.{length-fill}
 use Rattle.settings.specs.declared.Terms.{Terms}
 use Rattle.layout.specs.declared.Sizes.{Sizes}
 use Rattle.layout.specs.declared.Places.{Places}
-use Rattle.layout.specs.Slots.{Store, Has, Laid, vars, rest, words, then, next, cleared-of}
+use Rattle.layout.specs.Slots.{Store, Has, Laid, vars, rest, words}
+use Rattle.layout.proofs.Slots.{then, next, cleared-of}
 use Rattle.layout.specs.Slots.{Slot.U, Slot.F}
 use Rattle.lazy_normalization.specs.Lazy.{recipStore}
 use Rattle.lazy_gram.specs.Gram.{lazyGramStore, Lent}

@@ -28,6 +28,7 @@ unfoldable pub preparedStore : Sizes → Bool → Terms → List Float → Store
 preparedStore sh normalise tm m v =
     cond (isLazy sh) (lazyGramStore sh tm m (recipStore sh v)) (gramStore sh (designStore sh normalise tm m v))
 
+-- a fresh fit, each part from those before it: statistics, targets, then the design and its Gram
 unfoldable pub startStore : Sizes → Bool → Terms → List Float → List Float → Store
 startStore sh normalise tm m ys = preparedStore sh normalise tm m (targetsStore sh ys (statisticsStore sh normalise m (blankStore sh)))
 

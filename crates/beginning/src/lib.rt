@@ -13,15 +13,16 @@ use numbers::bits::canonical;
 use settings::Terms;
 ghost use mathlib.Core.Path.{_≡_};
 ghost use Prim.Native.Nat.{_<_, _^_};
-ghost use Rattle.layout.specs.Slots.{Room, Has, vars, rest, words};
+ghost use Rattle.layout.specs.Slots.{Room, words, Makes};
 ghost use lib.ListN.{length};
 ghost use Rattle.lasso_optimizer.specs.Fit.{fresh};
 ghost use Rattle.beginning.specs.Start.{Begins, blankStore, preparedStore, startStore};
 
 // All needed words +0, then the bounds 1 and f -1.
 fn blank(s: &mut [f64], sh: Sizes, l: Places, need: usize)
-    requires { ⌜ Room sh l (now s) × (need ≡ words sh) ⌝ }
-    ensures { λ _. ⌜ Has sh (rest sh (now (s .entry))) (blankStore sh) (now (s .exit)) ⌝ }
+    requires { ⌜ Room sh l (now s) ⌝ }
+    requires { ⌜ need ≡ words sh ⌝ }
+    ensures { λ _. ⌜ Makes sh (λ _. blankStore sh) (now (s .entry)) (now (s .exit)) ⌝ }
 {
     fill(s, 0, need, 0.0);
     fill(s, l.u, sh.p, 1.0);
@@ -31,7 +32,7 @@ fn blank(s: &mut [f64], sh: Sizes, l: Places, need: usize)
 // The design and its Gram, or what a design that is not stored needs.
 fn prepare(m: &[f64], sh: Sizes, normalise: bool, tm: Terms, s: &mut [f64], l: Places)
     requires { ⌜ Begins sh l (now m) (now s) ⌝ }
-    ensures { λ _. ⌜ Has sh (rest sh (now (s .entry))) (preparedStore sh normalise tm (now (m .entry)) (vars sh (now (s .entry)))) (now (s .exit)) ⌝ }
+    ensures { λ _. ⌜ Makes sh (preparedStore sh normalise tm (now (m .entry))) (now (s .entry)) (now (s .exit)) ⌝ }
 {
     if sh.rows == 0 {
         reciprocals(s, sh, l);
@@ -42,7 +43,7 @@ fn prepare(m: &[f64], sh: Sizes, normalise: bool, tm: Terms, s: &mut [f64], l: P
     design::eager::gram(sh, s, l);
 }
 
-// The sweep changes no number: it leaves each NaN in its one pattern.
+// Writes every needed word of the scratch, whatever it held. The sweep at the end changes no number: it leaves each NaN in its one pattern.
 pub fn begin(
     m: &[f64],
     y: &[f64],
@@ -53,8 +54,10 @@ pub fn begin(
     l: Places,
     need: usize,
 )
-    requires { ⌜ Begins sh l (now m) (now s) × ((need ≡ words sh) × (length (now y) ≡ sh .n)) ⌝ }
-    ensures { λ _. ⌜ Has sh (rest sh (now (s .entry))) (startStore sh normalise tm (now (m .entry)) (now (y .entry))) (now (s .exit)) ⌝ }
+    requires { ⌜ Begins sh l (now m) (now s) ⌝ }
+    requires { ⌜ need ≡ words sh ⌝ }
+    requires { ⌜ length (now y) ≡ sh .n ⌝ }
+    ensures { λ _. ⌜ Makes sh (λ _. startStore sh normalise tm (now (m .entry)) (now (y .entry))) (now (s .entry)) (now (s .exit)) ⌝ }
 {
     blank(s, sh, l, need);
     statistics(m, sh, normalise, s, l);
@@ -63,7 +66,7 @@ pub fn begin(
     sweep(s, 0, need);
 }
 
-// t by its formula, s infinite, the others +0.
+// The scalars before the first round: t by its formula, s infinite, so that the first round may raise t, and the others +0.
 pub fn fresh_scalars(p: usize, lambda: f64) -> Scalars
     requires { ⌜ p < 2 ^ 32 ⌝ }
     ensures { λ r. ⌜ r ≡ fresh p lambda ⌝ }

@@ -5,7 +5,7 @@ use mathlib.Core.List.{List}
 use Prim.Native.Nat.{ℕ}
 use lib.ListN.{length}
 use lib.Ieee.{Float}
-use Rattle.arrays.specs.Vectors.{length-zip}
+use Rattle.arrays.proofs.Lengths.{length-zip}
 use Rattle.bg_solver.specs.Shared.{aimed}
 
 pub length-aimed : (first : Bool) (bk : Float) (n : ℕ) (pp z : List Float) → length z ≡ n → length (aimed first bk n pp z) ≡ n

@@ -12,7 +12,7 @@ use Rattle.bg_solver.specs.declared.shared.Seven.{Seven}
 use Rattle.bg_solver.specs.declared.shared.Turned.{Turned}
 use Rattle.bg_solver.specs.declared.shared.Turned.the-variants.{Stop, More}
 
--- a round's answer by its error
+-- a round's answer by its error: it stops where that is at most the tolerance, so never for a NaN
 unfoldable pub turnBy : Float → Float → Float → Turned
 turnBy tol err bkden = cond (le err tol) (Stop err bkden) (More err bkden)
 
@@ -34,11 +34,13 @@ pub record Seated (m : List Float) (n : ℕ) (w : Seven) : Type 0 where
 abbrev pub aimed : Bool → Float → ℕ → List Float → List Float → List Float
 aimed first bk n pp z = cond first z (zipOf (λ (v u : Float). bk ⊗ v ⊕ u) n pp z)
 
+-- the slice after `direct`; both new directions are made of the old pp
 unfoldable pub directMem : Bool → Float → ℕ → Seven → List Float → List Float
 directMem first bkden n w m =
     let bk = productOf n (part m (w .z) n) (part m (w .rr) n) ⊘ bkden in
     put (put m (w .p) (aimed first bk n (part m (w .pp) n) (part m (w .z) n))) (w .pp) (aimed first bk n (part m (w .pp) n) (part m (w .zz) n))
 
+-- the slice after `advance`
 unfoldable pub advanceMem : Float → ℕ → Seven → List Float → List Float
 advanceMem bknum n w m =
     let ak = bknum ⊘ productOf n (part m (w .z) n) (part m (w .pp) n) in

@@ -19,7 +19,7 @@ pub enum Turned {
     More(f64, f64),
 }
 
-// The places of the vectors.
+// Where each of the seven vectors begins.
 pub struct Seven {
     pub x: usize,
     pub r: usize,
@@ -30,10 +30,11 @@ pub struct Seven {
     pub pp: usize,
 }
 
-// bknum, and the directions: in the first round z and zz, then both from the old pp.
+// Writes the directions p and pp: z and zz in the first round, later both from the old pp. Answers bknum, which the next round is given as bkden.
 pub fn direct(s: &mut [f64], n: usize, w: Seven, first: bool, bkden: f64) -> f64
     requires { ⌜ Seated (now s) n w ⌝ }
-    ensures { λ r. ⌜ (now (s .exit) ≡ directMem first bkden n w (now (s .entry))) × (r ≡ productOf n (part (now (s .entry)) (w .z) n) (part (now (s .entry)) (w .rr) n)) ⌝ }
+    ensures { λ r. ⌜ (now (s .exit)
+        ≡ directMem first bkden n w (now (s .entry))) × (r ≡ productOf n (part (now (s .entry)) (w .z) n) (part (now (s .entry)) (w .rr) n)) ⌝ }
 {
     let bknum = product(s, w.z, s, w.rr, n);
     if first {
@@ -47,7 +48,7 @@ pub fn direct(s: &mut [f64], n: usize, w: Seven, first: bool, bkden: f64) -> f64
     bknum
 }
 
-// The step along p: x, r and rr.
+// Takes the step along p: renews x, r and rr. The divisor is not tested, as in the Rust, so a 0 makes infinities and NaNs.
 pub fn advance(s: &mut [f64], n: usize, w: Seven, bknum: f64)
     requires { ⌜ Seated (now s) n w ⌝ }
     ensures { λ _. ⌜ now (s .exit) ≡ advanceMem bknum n w (now (s .entry)) ⌝ }
@@ -58,6 +59,7 @@ pub fn advance(s: &mut [f64], n: usize, w: Seven, bknum: f64)
     sub_scaled(s, w.rr, w.rr, ak, w.zz, n);
 }
 
+// The norm of the residual at r over that of the right side: a NaN where both are 0.
 pub fn error(s: &[f64], r: usize, n: usize, bnrm: f64) -> f64
     requires { ⌜ r + n ≤ length (now s) ⌝ }
     ensures { λ e. ⌜ e ≡ normTwoOf n (part (now (s .entry)) r n) ⊘ bnrm ⌝ }
@@ -65,6 +67,7 @@ pub fn error(s: &[f64], r: usize, n: usize, bnrm: f64) -> f64
     norm_2(s, r, n) / bnrm
 }
 
+// Stop where the error is at most the tolerance, so never for a NaN.
 pub fn answered(err: f64, bkden: f64, tol: f64) -> Turned
     ensures { λ r. ⌜ r ≡ turnBy tol err bkden ⌝ }
 {
@@ -74,6 +77,7 @@ pub fn answered(err: f64, bkden: f64, tol: f64) -> Turned
     Turned::More(err, bkden)
 }
 
+// The error, whichever answer it is.
 pub fn error_of(t: Turned) -> f64
     ensures { λ r. ⌜ r ≡ errorIn t ⌝ }
 {

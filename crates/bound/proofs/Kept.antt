@@ -10,9 +10,10 @@ use lib.Ieee.{Float, nan, neg, lt, ofBits}
 use Rattle.numbers.specs.Kinds.{unsigned}
 use Rattle.numbers.proofs.Sign.{positive-unsigned}
 use Rattle.numbers.specs.Constants.{one}
-use Rattle.arrays.specs.Part.{getD-tab}
+use Rattle.arrays.proofs.Part.{getD-tab}
 use Rattle.arrays.specs.Sums.{_!_, plus0, sumOf}
-use Rattle.arrays.specs.Vectors.{fillOf, length-fill}
+use Rattle.arrays.specs.Vectors.{fillOf}
+use Rattle.arrays.proofs.Lengths.{length-fill}
 use Rattle.newton.specs.Newton.{startT, nextT}
 use Rattle.line_search.specs.Search.{facesOf, largestOf, sumlognegOf, phiOf, decreases}
 use Rattle.bound.specs.Kept.{Inside, Bounded, Kept}

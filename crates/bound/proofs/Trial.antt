@@ -20,7 +20,7 @@ use Rattle.numbers.proofs.Folds.{sum-number, sum-high, largest-under}
 use Rattle.logarithm.specs.Log.{lnOf}
 use Rattle.logarithm.proofs.Specials.{ln-nan, ln-infinity}
 use Rattle.arrays.specs.Sums.{_!_, sumOf, plus0}
-use Rattle.matrices.specs.Grid.{length-grid}
+use Rattle.matrices.proofs.Grid.{length-grid}
 use Rattle.line_search.specs.Search.{facesOf, facesList, largestOf, sumlognegOf, phiOf, alpha, decreases}
 use Rattle.line_search.proofs.Lists.{largest-list, sumlogneg-list, sum-list, faces-list}
 use Rattle.bound.specs.Kept.{Inside}

@@ -9,16 +9,18 @@ use lib.Ieee.{Float}
 use borrow.Author.Tests.{eqb-true, eq-eqb, ne-eqb}
 use Rattle.refusal.specs.declared.Refusal.{Refusal}
 use Rattle.refusal.specs.declared.Refusal.the-variants.{Size, Length}
-use Rattle.refusal.specs.Refusal.{numberOf, placeOf}
+use Rattle.refusal.specs.Refusal.{numberOf}
+use Rattle.refusal.specs.Sizes.{inSize}
 use Rattle.refusal.proofs.Asking.{both-true}
 use Rattle.settings.specs.declared.Settings.{Settings}
 use Rattle.pause.specs.Parts.{none}
-use Rattle.stages.specs.declared.Counts.{Counts}
-use Rattle.stages.specs.declared.Paused.{Paused}
-use Rattle.stages.specs.Stage.{countsBack}
+use Rattle.records.specs.declared.Counts.{Counts}
+use Rattle.records.specs.declared.Paused.{Paused}
+use Rattle.records.specs.Record.{countsBack}
 use Rattle.elastic_net.specs.declared.Resumed.{Resumed}
 use Rattle.elastic_net.specs.declared.Started.{Started}
-use Rattle.elastic_net.specs.ElasticNet.{refused, said, saidS, outcome, begun, resumeOf, startOf}
+use Rattle.elastic_net.specs.ElasticNet.{said, saidS, outcome, begun, resumeOf, startOf}
+use Rattle.checks.specs.Checks.{scratchWords}
 use Rattle.prediction.specs.declared.Predicted.{Predicted}
 use Rattle.prediction.specs.declared.Predicted.the-variants.{Done as DoneP, Refused as RefusedP}
 use Rattle.prediction.specs.Predict.{Outcome.outcome as outcomeP, predictOf}
@@ -26,9 +28,11 @@ use Rattle.lone_solver.specs.declared.Answer.{Answer as AnswerL}
 use Rattle.lone_solver.specs.declared.Answer.the-variants.{Solved as SolvedL, Refused as RefusedL}
 use Rattle.lone_solver.specs.Solve.{Outcome.outcome as outcomeL, solveOf}
 use Rattle.c_words.specs.declared.Told.{Told}
-use Rattle.c_words.specs.Words.{settingsFrom, pausedFrom, pausedWords, toldWords}
-use Rattle.c_api.specs.Answers.{answerWords, keeps, toldOf, toldPredicted, toldSolved}
-use Rattle.c_api.specs.Calls.{Called, called, inRange, unread, countsIn, resumedAs, resumeWords, startedSaid, startedRecord, startedAs, startWords, predictedAs, predictWords, solvedAs, solveWords}
+use Rattle.c_values.specs.Settings.{settingsFrom}
+use Rattle.c_words.specs.Words.{pausedFrom, pausedWords, toldWords}
+use Rattle.c_answers.specs.Answers.{answerWords, keeps, toldOf, startedSaid, startedRecord, toldPredicted, toldSolved}
+use Rattle.c_answers.specs.Called.{Called, called, unread, countsIn}
+use Rattle.c_api.specs.Calls.{scratchWordsOf, resumedAs, resumeWords, startedAs, startWords, predictedAs, predictWords, solvedAs, solveWords}
 
 -- ---- the words that are due
 
@@ -46,18 +50,18 @@ lengths a b c h =
     let (x, y) = both-true (eqb a 8) (eqb b 16) l in
     record { settings = eqb-true a 8 x; paused = eqb-true b 16 y; answer = eqb-true c 7 r }
 
+-- ---- the words of scratch
+
+module _ (n p : ℕ) (sw : List ℕ) where
+  pub scratch-not-due : (length sw ≡ 8 → ⊥) → 0 ≡ scratchWordsOf n p sw
+  unfolding scratchWordsOf
+  scratch-not-due h = rw (ne-eqb (length sw) 8 h)
+
+  pub scratch-due : {st : Settings} {r : ℕ} → length sw ≡ 8 → st ≡ settingsFrom sw → r ≡ scratchWords n p st → r ≡ scratchWordsOf n p sw
+  unfolding scratchWordsOf
+  scratch-due h es e = rw (eq-eqb (length sw) 8 h, ← es) e
+
 -- ---- words of the wrong number
-
-module _ (ranged : Bool) (c : Counts) (aw : List ℕ) where
-  pub answer-written : {r : Refusal} {t : Told} {aw′ : List ℕ} → length aw ≡ 7 → r ≡ cond ranged Length Size → t ≡ toldOf (refused (numberOf r) (placeOf r))
-      → aw′ ≡ toldWords t c → called (t .number) [] aw′ [] [] ≡ unread ranged c [] aw [] []
-  unfolding unread answerWords
-  answer-written h er et ew = rw (eq-eqb (length aw) 7 h, ew, et, er)
-
-  pub answer-left : {r : Refusal} {t : Told} → (length aw ≡ 7 → ⊥) → r ≡ cond ranged Length Size → t ≡ toldOf (refused (numberOf r) (placeOf r))
-      → called (t .number) [] aw [] [] ≡ unread ranged c [] aw [] []
-  unfolding unread
-  answer-left h er et = rw (ne-eqb (length aw) 7 h, et, er)
 
 abbrev beside : List ℕ → List Float → List Float → Called → Called
 beside pw w s (called k r a v m) = called k pw a w s
@@ -72,10 +76,10 @@ others-kept ranged c aw pw w s e = ap (beside pw w s) e
 
 module _ (n p : ℕ) (x y : List Float) (sw pw : List ℕ) (s w : List Float) (b : ℕ) (aw : List ℕ) where
   pub resume-not-due : {c : Counts} {k : ℕ} {aw′ : List ℕ} → Due (length sw) (length pw) (length aw) ≡ false
-      → c ≡ countsIn pw → called k [] aw′ [] [] ≡ unread (inRange n p) c [] aw [] []
+      → c ≡ countsIn pw → called k [] aw′ [] [] ≡ unread (inSize n p) c [] aw [] []
       → called k pw aw′ w s ≡ resumeWords n p x y sw pw s w b aw
   unfolding resumeWords
-  resume-not-due {c} q ec e = rw (q, ← ec) (others-kept (inRange n p) c aw pw w s e)
+  resume-not-due {c} q ec e = rw (q, ← ec) (others-kept (inSize n p) c aw pw w s e)
 
   pub resume-due : (r : Resumed) (w′ s′ : List Float) {st : Settings} {a : Paused} {pw′ aw′ : List ℕ} {t : Told}
       → Due (length sw) (length pw) (length aw) ≡ true → st ≡ settingsFrom sw → a ≡ pausedFrom pw → outcome r w′ s′ ≡ resumeOf n p x y st a s w b
@@ -88,10 +92,10 @@ module _ (n p : ℕ) (x y : List Float) (sw pw : List ℕ) (s w : List Float) (b
 
 module _ (n p : ℕ) (x y : List Float) (sw pw : List ℕ) (s : List Float) (aw : List ℕ) where
   pub start-not-due : {c : Counts} {k : ℕ} {aw′ : List ℕ} → Due (length sw) (length pw) (length aw) ≡ false
-      → c ≡ countsBack none → called k [] aw′ [] [] ≡ unread (inRange n p) c [] aw [] []
+      → c ≡ countsBack none → called k [] aw′ [] [] ≡ unread (inSize n p) c [] aw [] []
       → called k pw aw′ [] s ≡ startWords n p x y sw pw s aw
   unfolding startWords
-  start-not-due {c} q ec e = rw (q, ← ec) (others-kept (inRange n p) c aw pw [] s e)
+  start-not-due {c} q ec e = rw (q, ← ec) (others-kept (inSize n p) c aw pw [] s e)
 
   pub start-due : (r : Started) (s′ : List Float) {st : Settings} {pw′ aw′ : List ℕ} {t : Told} {c : Counts}
       → Due (length sw) (length pw) (length aw) ≡ true → st ≡ settingsFrom sw → begun r s′ ≡ startOf n p x y st s
@@ -108,7 +112,7 @@ predicted-as DoneP out = refl
 predicted-as (RefusedP r) out = refl
 
 module _ (n p : ℕ) (x w : List Float) (b : Float) (out : List Float) (aw : List ℕ) where
-  pub predict-not-due : {r : Refusal} {k : ℕ} → (length aw ≡ 7 → ⊥) → r ≡ cond (inRange n p) Length Size → k ≡ numberOf r
+  pub predict-not-due : {r : Refusal} {k : ℕ} → (length aw ≡ 7 → ⊥) → r ≡ cond (inSize n p) Length Size → k ≡ numberOf r
       → called k [] aw out [] ≡ predictWords n p x w b out aw
   unfolding predictWords unread
   predict-not-due h er ek = rw (ne-eqb (length aw) 7 h, ek, er)
@@ -126,7 +130,7 @@ solved-as (SolvedL e) x s = refl
 solved-as (RefusedL r) x s = refl
 
 module _ (n : ℕ) (a b x : List Float) (tol : Float) (limit : ℕ) (s : List Float) (aw : List ℕ) where
-  pub solve-not-due : {r : Refusal} {k : ℕ} → (length aw ≡ 7 → ⊥) → r ≡ cond (inRange 1 n) Length Size → k ≡ numberOf r
+  pub solve-not-due : {r : Refusal} {k : ℕ} → (length aw ≡ 7 → ⊥) → r ≡ cond (inSize 1 n) Length Size → k ≡ numberOf r
       → called k [] aw x s ≡ solveWords n a b x tol limit s aw
   unfolding solveWords unread
   solve-not-due h er ek = rw (ne-eqb (length aw) 7 h, ek, er)

@@ -1,3 +1,2 @@
-mod Telling
 mod Calls
 pub mod Unique

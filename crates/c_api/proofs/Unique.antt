@@ -3,7 +3,8 @@ use mathlib.Core.Path.{_≡_, sym, ap, _∙_}
 use mathlib.Core.List.{List}
 use Prim.Native.Nat.{ℕ}
 use lib.Ieee.{Float}
-use Rattle.c_api.specs.Calls.{Called, called, StartCall, ResumeCall, PredictCall, SolveCall}
+use Rattle.c_answers.specs.Called.{Called, called}
+use Rattle.c_api.specs.Calls.{ScratchCall, StartCall, ResumeCall, PredictCall, SolveCall}
 
 abbrev numberIn : Called → ℕ
 numberIn (called r p a w s) = r
@@ -25,6 +26,9 @@ outcomes-coincide : {o : Called} {r r′ : ℕ} {p p′ a a′ : List ℕ} {w w�
 outcomes-coincide h k =
     let e = h ∙ sym k in
     (ap numberIn e, ap recordIn e, ap answerIn e, ap weightsIn e, ap scratchIn e)
+
+pub scratch-call-unique : (n p : ℕ) (sw : List ℕ) {r r′ : ℕ} → ScratchCall n p sw r → ScratchCall n p sw r′ → r ≡ r′
+scratch-call-unique n p sw h k = h ∙ sym k
 
 pub start-call-unique : (n p : ℕ) (x y : List Float) (sw rw : List ℕ) (s : List Float) (aw : List ℕ) {r r′ : ℕ} {rw₁ rw₂ aw₁ aw₂ : List ℕ} {s₁ s₂ : List Float}
     → StartCall n p x y sw rw s aw r rw₁ aw₁ s₁ → StartCall n p x y sw rw s aw r′ rw₂ aw₂ s₂ → (r ≡ r′) × (rw₁ ≡ rw₂) × (aw₁ ≡ aw₂) × (s₁ ≡ s₂)

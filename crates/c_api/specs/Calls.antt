@@ -1,78 +1,61 @@
 -- What the calls over words return and leave. Definitions only.
 use mathlib.Core.Path.{_≡_}
-use mathlib.Core.Bool.{Bool, _&&_, cond}
+use mathlib.Core.Bool.{_&&_, cond}
 use mathlib.Core.List.{List, [], _∷_}
 use Prim.Native.Nat.{ℕ}
 use lib.Dec.{eqb, leb}
 use lib.ListN.{length}
 use lib.Ieee.{Float}
 use Rattle.pause.specs.Parts.{none}
-use Rattle.stages.specs.declared.Counts.{Counts}
-use Rattle.stages.specs.Stage.{countsBack}
-use Rattle.elastic_net.specs.ElasticNet.{Said, pending, refused, Outcome, SaidS, ready, refusedS, Begun, resumeOf, startOf}
+use Rattle.records.specs.Record.{countsBack}
+use Rattle.elastic_net.specs.ElasticNet.{Outcome, Begun, resumeOf, startOf}
 use Rattle.refusal.specs.declared.Refusal.{Refusal}
-use Rattle.refusal.specs.declared.Refusal.the-variants.{Size, Length}
 use Rattle.refusal.specs.Refusal.{numberOf, placeOf}
+use Rattle.refusal.specs.Sizes.{inSize}
+use Rattle.checks.specs.Checks.{scratchWords}
 use Rattle.prediction.specs.declared.Predicted.the-variants.{Done as DoneP, Refused as RefusedP}
 use Rattle.prediction.specs.Predict.{Outcome as OutcomeP, Outcome.outcome as outcomeP, predictOf}
 use Rattle.lone_solver.specs.declared.Answer.the-variants.{Solved as SolvedL, Refused as RefusedL}
 use Rattle.lone_solver.specs.Solve.{Outcome as OutcomeL, Outcome.outcome as outcomeL, solveOf}
 use Rattle.c_values.specs.Values.{bits}
-use Rattle.c_words.specs.Words.{settingsFrom, pausedFrom, pausedWords}
-use Rattle.c_api.specs.Answers.{numberIn, answerWords, keeps}
+use Rattle.c_values.specs.Settings.{settingsFrom}
+use Rattle.c_words.specs.Words.{pausedFrom, pausedWords}
+use Rattle.c_answers.specs.Answers.{numberIn, answerWords, keeps, startedSaid, startedRecord}
+use Rattle.c_answers.specs.Called.{Called, called, unread, countsIn}
 
--- the number of a refusal, or 0; the record's and the answer's words, weights and scratch
-pub data Called : Type 0 where
-  called : ℕ → List ℕ → List ℕ → List Float → List Float → Called
+-- ---- the words of scratch that a fit needs: 0 where a size or a setting is out of range, or the settings have not their 8 words
 
--- ---- words of the wrong number: 1 where n or p is out of range, else 2
-
--- rows and columns of a matrix
-abbrev pub inRange : ℕ → ℕ → Bool
-inRange n p = leb 1 n && leb n 4096 && leb 1 p && leb p 64
-
--- the answer says so where it has its 7 words; record, weights and scratch are as they were
-unfoldable pub unread : Bool → Counts → List ℕ → List ℕ → List Float → List Float → Called
-unread ranged c rw aw w s =
-    let r = cond ranged Length Size in
-    called (numberOf r) rw (cond (eqb (length aw) 7) (answerWords (refused (numberOf r) (placeOf r)) c) aw) w s
-
--- the counts of a record that has its 16 words
-unfoldable pub countsIn : List ℕ → Counts
-countsIn rw = cond (eqb (length rw) 16) (pausedFrom rw .counts) (countsBack none)
+-- n, p, settings
+unfoldable pub scratchWordsOf : ℕ → ℕ → List ℕ → ℕ
+scratchWordsOf n p sw = cond (eqb (length sw) 8) (scratchWords n p (settingsFrom sw)) 0
 
 -- ---- a resuming call
 
 unfoldable pub resumedAs : List ℕ → ℕ → Outcome → Called
 resumedAs rw b o =
-    called (numberIn (o .answer)) (cond (keeps (o .answer) b) rw (pausedWords (o .paused))) (answerWords (o .answer) (o .paused .counts)) (o .weights) (o .scratch)
+    called (numberIn (o .answer)) (cond (keeps (o .answer) b) rw (pausedWords (o .paused))) (answerWords (o .answer) (o .paused .counts))
+    (o .weights) (o .scratch)
 
 -- n, p, matrix, targets, settings, record, scratch, weights, budget, answer
 unfoldable pub resumeWords : ℕ → ℕ → List Float → List Float → List ℕ → List ℕ → List Float → List Float → ℕ → List ℕ → Called
 resumeWords n p x y sw rw s w b aw =
     cond (eqb (length sw) 8 && eqb (length rw) 16 && eqb (length aw) 7)
     (resumedAs rw b (resumeOf n p x y (settingsFrom sw) (pausedFrom rw) s w b))
-    (unread (inRange n p) (countsIn rw) rw aw w s)
+    (unread (inSize n p) (countsIn rw) rw aw w s)
 
 -- ---- a start
 
-abbrev pub startedSaid : SaidS → Said
-startedSaid (ready a) = pending
-startedSaid (refusedS n i) = refused n i
-
-abbrev pub startedRecord : SaidS → List ℕ → List ℕ
-startedRecord (ready a) rw = pausedWords a
-startedRecord (refusedS n i) rw = rw
-
 unfoldable pub startedAs : List ℕ → Begun → Called
-startedAs rw o = called (numberIn (startedSaid (o .answer))) (startedRecord (o .answer) rw) (answerWords (startedSaid (o .answer)) (countsBack none)) [] (o .scratch)
+startedAs rw o =
+    let a = startedSaid (o .answer) in
+    called (numberIn a) (startedRecord (o .answer) rw) (answerWords a (countsBack none)) [] (o .scratch)
 
 -- n, p, matrix, targets, settings, record, scratch, answer
 unfoldable pub startWords : ℕ → ℕ → List Float → List Float → List ℕ → List ℕ → List Float → List ℕ → Called
 startWords n p x y sw rw s aw =
     cond (eqb (length sw) 8 && eqb (length rw) 16 && eqb (length aw) 7)
     (startedAs rw (startOf n p x y (settingsFrom sw) s))
-    (unread (inRange n p) (countsBack none) rw aw [] s)
+    (unread (inSize n p) (countsBack none) rw aw [] s)
 
 -- ---- predictions and the lone solver: kind 1 where it is done, no counts, and last the solver's error
 
@@ -88,7 +71,7 @@ predictedAs (outcomeP (RefusedP r) out) = refusedAs r out []
 
 -- n, p, matrix, weights, intercept, predictions, answer
 unfoldable pub predictWords : ℕ → ℕ → List Float → List Float → Float → List Float → List ℕ → Called
-predictWords n p x w b out aw = cond (eqb (length aw) 7) (predictedAs (predictOf n p x w b out)) (unread (inRange n p) (countsBack none) [] aw out [])
+predictWords n p x w b out aw = cond (eqb (length aw) 7) (predictedAs (predictOf n p x w b out)) (unread (inSize n p) (countsBack none) [] aw out [])
 
 unfoldable pub solvedAs : OutcomeL → Called
 solvedAs (outcomeL (SolvedL e) x s) = called 0 [] (shortWords 1 0 0 (bits e)) x s
@@ -100,6 +83,9 @@ solveWords n a b x tol limit s aw =
     cond (eqb (length aw) 7) (solvedAs (solveOf n a b x tol limit s)) (unread (leb 1 n && leb n 64) (countsBack none) [] aw x s)
 
 -- ---- the contracts: the input as above, then what the call returns and leaves in record, answer, weights (predictions, solution) and scratch
+
+abbrev pub ScratchCall : ℕ → ℕ → List ℕ → ℕ → Type 0
+ScratchCall n p sw r = r ≡ scratchWordsOf n p sw
 
 abbrev pub StartCall : ℕ → ℕ → List Float → List Float → List ℕ → List ℕ → List Float → List ℕ → ℕ → List ℕ → List ℕ → List Float → Type 0
 StartCall n p x y sw rw s aw r rw′ aw′ s′ = called r rw′ aw′ [] s′ ≡ startWords n p x y sw rw s aw

@@ -5,6 +5,7 @@ use mathlib.Core.Bool.{Bool, cond}
 use mathlib.Core.List.{List}
 use lib.ListN.{length}
 use lib.Ieee.{Float}
+use Rattle.refusal.specs.declared.Failure.{Failure}
 use Rattle.refusal.specs.declared.Refusal.the-variants.{Record}
 use Rattle.refusal.specs.declared.Checked.{Checked}
 use Rattle.refusal.specs.declared.Checked.the-variants.{Fine, Bad}
@@ -14,20 +15,22 @@ use Rattle.layout.specs.declared.Sizes.{Sizes}
 use Rattle.layout.specs.Slots.{vars, rest}
 use Rattle.layout.specs.Need.{sizesOf}
 use Rattle.pause.specs.Progress.{Progress, over, going}
-use Rattle.pause.specs.Parts.{End, end, converged, limit, refused}
+use Rattle.pause.specs.Parts.{End, end, converged, limit, failed}
 use Rattle.pause.specs.Paused.{State, call}
 use Rattle.lasso_optimizer.specs.Data.{Data}
-use Rattle.stages.specs.declared.Paused.{Paused}
-use Rattle.stages.specs.Stage.{howOf, stateOf}
+use Rattle.records.specs.declared.Paused.{Paused}
+use Rattle.records.specs.Record.{stateOf}
+use Rattle.stages.specs.Stage.{howOf}
 use Rattle.checks.specs.Checks.{limitsOf, startValues}
 use Rattle.records.specs.Records.{possibleOf}
-use Rattle.elastic_net.specs.declared.Way.the-variants.{Converged, Limit}
+use Rattle.refusal.specs.declared.Way.the-variants.{Converged, Limit}
+use Rattle.refusal.specs.Refusal.{refusedBy}
 use Rattle.elastic_net.specs.declared.Answer.{Answer}
 use Rattle.elastic_net.specs.declared.Answer.the-variants.{Pending, Done, Refused}
 use Rattle.elastic_net.specs.declared.Resumed.{Resumed}
 use Rattle.elastic_net.specs.declared.Started.{Started}
 use Rattle.elastic_net.specs.declared.Started.the-variants.{Ready as ReadyS, Refused as RefusedS}
-use Rattle.elastic_net.specs.ElasticNet.{Said, said, Outcome, failedOf, endOutcome, ending, shown, byCheck, resumeOf, SaidS, saidS, Begun, byStartCheck, startOf}
+use Rattle.elastic_net.specs.ElasticNet.{Said, said, Outcome, endOutcome, ending, shown, byCheck, resumeOf, SaidS, saidS, Begun, byStartCheck, startOf}
 use Rattle.promises.specs.Chain.{Starts, Resumes}
 use Rattle.promises.proofs.Calls.{partsOf}
 
@@ -36,11 +39,11 @@ record Answered (t : Said) : Type 0 where
   is : said answer ≡ t
 
 module _ (sh : Sizes) (normalise : Bool) (gamma : Float) (ys e w : List Float) where
-  shown-answered : (q : Progress (End Data) (State Data)) → Answered (shown sh normalise gamma ys e w q .answer)
+  shown-answered : (q : Progress (End Failure Data) (State Data)) → Answered (shown sh normalise gamma ys e w q .answer)
   unfolding shown ending endOutcome howOf
   shown-answered (over (end converged c d)) = record { answer = Done _ Converged _; is = refl }
   shown-answered (over (end limit c d)) = record { answer = Done _ Limit _; is = refl }
-  shown-answered (over (end (refused k) c d)) = record { answer = Refused (failedOf k); is = refl }
+  shown-answered (over (end (failed x) c d)) = record { answer = Refused (refusedBy x); is = refl }
   shown-answered (going z) = record { answer = Pending; is = refl }
 
 by-check : (k : Checked) (a : Paused) (w s : List Float) (o : Outcome) → Answered (o .answer) → Answered (byCheck k a w s o .answer)

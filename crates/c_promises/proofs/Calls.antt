@@ -13,11 +13,12 @@ use Rattle.refusal.specs.declared.Refusal.the-variants.{Size, Length, Setting, 
 use Rattle.refusal.specs.declared.Checked.{Checked}
 use Rattle.refusal.specs.declared.Checked.the-variants.{Fine, Bad}
 use Rattle.refusal.specs.Refusal.{numberOf}
+use Rattle.refusal.specs.Sizes.{inSize}
 use Rattle.refusal.proofs.Asking.{both-true}
 use Rattle.settings.specs.declared.Settings.{Settings}
 use Rattle.layout.specs.Slots.{vars}
 use Rattle.layout.specs.Need.{sizesOf}
-use Rattle.stages.specs.declared.Paused.{Paused}
+use Rattle.records.specs.declared.Paused.{Paused}
 use Rattle.stages.specs.Stage.{howOf}
 use Rattle.records.specs.Records.{spentAt}
 use Rattle.records.proofs.Laws.{spent-over}
@@ -27,14 +28,17 @@ use Rattle.elastic_net.specs.declared.Started.{Started}
 use Rattle.elastic_net.specs.declared.Started.the-variants.{Ready as ReadyS, Refused as RefusedS}
 use Rattle.elastic_net.specs.ElasticNet.{Said, pending, converged, limit, refused, said, Outcome, outcome, endOutcome, ending, shown, resumeOf, Begun, begun, startOf}
 use Rattle.promises.specs.Chain.{Starts, Resumes}
-use Rattle.promises.proofs.Refused.{resumeCheck, Unchanged, resume-refused, resume-accepted}
+use Rattle.promises.specs.Refused.{resumeCheck, Unchanged}
+use Rattle.promises.proofs.Refused.{resume-refused, resume-accepted}
 use Rattle.promises.proofs.Calls.{partsOf}
 use Rattle.promises.proofs.Corners.{budget-0}
 use Rattle.c_values.specs.Values.{word}
-use Rattle.c_words.specs.Words.{settingsFrom, pausedFrom, pausedWords}
+use Rattle.c_values.specs.Settings.{settingsFrom}
+use Rattle.c_words.specs.Words.{pausedFrom, pausedWords}
 use Rattle.c_words.proofs.Words.{read-fits}
-use Rattle.c_api.specs.Answers.{kindOf, answerWords, keeps}
-use Rattle.c_api.specs.Calls.{called, inRange, unread, StartCall, ResumeCall, startWords, startedAs, resumeWords, resumedAs}
+use Rattle.c_answers.specs.Answers.{kindOf, answerWords, keeps}
+use Rattle.c_answers.specs.Called.{called, unread}
+use Rattle.c_api.specs.Calls.{StartCall, ResumeCall, startWords, startedAs, resumeWords, resumedAs}
 use Rattle.c_promises.proofs.Fits.{allowed, start-again, resume-again}
 use Rattle.c_promises.proofs.Answers.{starting, resuming}
 
@@ -118,7 +122,7 @@ module _ (n p : ℕ) (x y : List Float) (sw pw : List ℕ) (s : List Float) (aw 
         record { settings = eqb-true _ _ (both-true (eqb (length sw) 8) (eqb (length pw) 16) l .0); is = rw q at c }
     go false q =
         let d = rw q at c in
-        absurd (not-0 (cond (inRange n p) Length Size) (cc))
+        absurd (not-0 (cond (inSize n p) Length Size) (cc))
 
   module _ (o : Begun) (is : called 0 pw′ aw′ [] s′ ≡ startedAs pw o) (s₂ : List Float) where
     ready-words : (a : Paused) → begun (ReadyS a) s₂ ≡ o → (pw′ ≡ pausedWords a) × (s′ ≡ s₂)

@@ -7,6 +7,7 @@ use mathlib.Core.List.{List}
 use lib.ListN.{length}
 use lib.Ieee.{Float, binary64}
 use lib.Ieee.Bits.{ofBits-fits}
+use Rattle.refusal.specs.declared.Failure.{Failure}
 use Rattle.refusal.specs.declared.Refusal.the-variants.{Record}
 use Rattle.refusal.specs.declared.Checked.{Checked}
 use Rattle.refusal.specs.declared.Checked.the-variants.{Fine, Bad}
@@ -24,11 +25,11 @@ use Rattle.lasso_optimizer.specs.declared.Scalars.{Scalars}
 use Rattle.lasso_optimizer.specs.Data.{Data, held}
 use Rattle.doubles.specs.Fit.{Fit, FitData}
 use Rattle.doubles.proofs.Keeps.{fresh-fit, fits-keep}
-use Rattle.stages.specs.declared.Counts.{Counts as CountsE}
-use Rattle.stages.specs.declared.Paused.{Paused}
-use Rattle.stages.specs.declared.Stage.{Stage}
-use Rattle.stages.specs.declared.Stage.the-variants.{Opening, Solving, Searching, Ended}
-use Rattle.stages.specs.Stage.{pausedOf, stateAt, stateOf, SaneAt, Sane}
+use Rattle.records.specs.declared.Counts.{Counts as CountsE}
+use Rattle.records.specs.declared.Paused.{Paused}
+use Rattle.records.specs.declared.Stage.{Stage}
+use Rattle.records.specs.declared.Stage.the-variants.{Opening, Solving, Searching, Ended}
+use Rattle.records.specs.Record.{pausedOf, stateAt, stateOf, SaneAt, Sane}
 use Rattle.checks.specs.Checks.{limitsOf}
 use Rattle.records.specs.Records.{possibleOf, spentAt, endedOf}
 use Rattle.records.proofs.Laws.{possible-sane, spent-over}
@@ -36,7 +37,8 @@ use Rattle.elastic_net.specs.declared.Resumed.{Resumed}
 use Rattle.elastic_net.specs.declared.Started.the-variants.{Ready as ReadyS}
 use Rattle.elastic_net.specs.ElasticNet.{Outcome, endOutcome, ending, shown}
 use Rattle.promises.specs.Chain.{Starts, Resumes, Chain, last, more}
-use Rattle.promises.proofs.Refused.{firstOf, resumeCheck, resume-refused, resume-accepted}
+use Rattle.promises.specs.Refused.{firstOf, resumeCheck}
+use Rattle.promises.proofs.Refused.{resume-refused, resume-accepted}
 use Rattle.promises.proofs.Calls.{partsOf, start-poised}
 use Rattle.c_words.specs.Words.{pausedFrom, pausedWords}
 use Rattle.c_words.proofs.Words.{record-round-trip}
@@ -74,7 +76,7 @@ state-fit Ended M r c a v h f = absurd h
 
 module _ (sh : Sizes) (normalise : Bool) (gamma : Float) (ys e w : List Float) where
   -- what is shown of a state that has it, or of any end
-  shown-fit : (q : Progress (End Data) (State Data)) → Always (Kept FitData) (EndKept FitData) q → Fit (shown sh normalise gamma ys e w q .paused .scalars)
+  shown-fit : (q : Progress (End Failure Data) (State Data)) → Always (Kept FitData) (EndKept FitData) q → Fit (shown sh normalise gamma ys e w q .paused .scalars)
   unfolding shown ending endOutcome
   shown-fit (over (end h c d)) k = ended-fit _
   shown-fit (going z) k = paused-fit z k

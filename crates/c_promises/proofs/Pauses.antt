@@ -1,30 +1,32 @@
 -- Condition 3 over words: a caller who gives back the words that it got ends as smartcore's fit. Assumes nothing.
 use Prim.Native.Nat.{ℕ}
 use mathlib.Core.Path.{_≡_, refl, ap, _∙_}
-use mathlib.Core.Bool.{Bool, true, false, not, _||_}
+use mathlib.Core.Bool.{Bool}
 use mathlib.Core.List.{List, _∷_}
-use lib.Dec.{eqb}
 use lib.ListN.{length}
 use lib.Ieee.{Float}
-use Rattle.refusal.specs.Refusal.{numberOf}
+use Rattle.refusal.specs.declared.Failure.{Failure}
+use Rattle.refusal.specs.declared.Failure.the-variants.{Search, Tolerance}
 use Rattle.settings.specs.Settings.{termsOf}
 use Rattle.layout.specs.declared.Sizes.{Sizes}
 use Rattle.layout.specs.Slots.{rest}
 use Rattle.layout.specs.Need.{sizesOf}
-use Rattle.pause.specs.Parts.{End, end, converged, limit, refused}
+use Rattle.pause.specs.Parts.{End, end, converged, limit, failed}
 use Rattle.lasso_optimizer.specs.Data.{Data}
-use Rattle.stages.specs.declared.Paused.{Paused}
+use Rattle.records.specs.declared.Paused.{Paused}
 use Rattle.stages.specs.Stage.{howOf}
 use Rattle.elastic_net.specs.declared.Resumed.{Resumed}
 use Rattle.elastic_net.specs.declared.Started.the-variants.{Ready as ReadyS}
-use Rattle.elastic_net.specs.ElasticNet.{outcome, failedOf, endOutcome, ending}
+use Rattle.elastic_net.specs.ElasticNet.{outcome, endOutcome, ending}
 use Rattle.smartcore.specs.ElasticNet.{fit}
 use Rattle.unbroken_fit.specs.Unbroken.{fitOf}
 use Rattle.promises.specs.Chain.{Starts, Chain, last as lastC, more as moreC, Enough}
 use Rattle.promises.specs.Outcome.{outcomeOf}
 use Rattle.promises.proofs.Pauses.{pause-theorem, pauses-end-as-the-rust}
-use Rattle.c_words.specs.Words.{settingsFrom, pausedFrom}
-use Rattle.c_api.specs.Calls.{Called, called, StartCall, resumedAs}
+use Rattle.c_values.specs.Settings.{settingsFrom}
+use Rattle.c_words.specs.Words.{pausedFrom}
+use Rattle.c_answers.specs.Called.{Called, called}
+use Rattle.c_api.specs.Calls.{StartCall, resumedAs}
 use Rattle.c_promises.specs.WordChain.{WordChain, last, more, endWords}
 use Rattle.c_promises.proofs.Calls.{began, Went, went, word-pending, pending-word, pending-reads}
 
@@ -71,18 +73,13 @@ module _ (n p : ℕ) (x y : List Float) (sw : List ℕ) (ls : length sw ≡ 8) w
 
 -- ---- an end writes the record's words, whatever the budget
 
-failed-written : (k : ℕ) → not (eqb (numberOf (failedOf k)) 7 || eqb (numberOf (failedOf k)) 8) ≡ false
-failed-written k = go (eqb k 7) refl where
-  go : (b : Bool) → eqb k 7 ≡ b → not (eqb (numberOf (failedOf k)) 7 || eqb (numberOf (failedOf k)) 8) ≡ false
-  go true q = rw q
-  go false q = rw q
-
-end-written : (sh : Sizes) (normalise : Bool) (gamma : Float) (ys e : List Float) (u : End Data) (pw : List ℕ) (b : ℕ)
+end-written : (sh : Sizes) (normalise : Bool) (gamma : Float) (ys e : List Float) (u : End Failure Data) (pw : List ℕ) (b : ℕ)
     → resumedAs pw b (ending sh normalise gamma ys e u) ≡ endWords (ending sh normalise gamma ys e u)
 unfolding resumedAs endWords ending endOutcome howOf
 end-written sh normalise gamma ys e (end converged c d) pw b = refl
 end-written sh normalise gamma ys e (end limit c d) pw b = refl
-end-written sh normalise gamma ys e (end (refused k) c d) pw b = rw (failed-written k)
+end-written sh normalise gamma ys e (end (failed Search) c d) pw b = refl
+end-written sh normalise gamma ys e (end (failed Tolerance) c d) pw b = refl
 
 module _ (n p : ℕ) (x y : List Float) (sw pw : List ℕ) (s : List Float) (aw pw₁ aw₁ : List ℕ) (s₁ : List Float) (h : StartCall n p x y sw pw s aw 0 pw₁ aw₁ s₁) where
   -- calls of `start` and `resume` that end a fit, and that calls over words return and leave the words of

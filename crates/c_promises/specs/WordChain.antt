@@ -7,8 +7,9 @@ use lib.Ieee.{Float}
 use Rattle.elastic_net.specs.ElasticNet.{Outcome}
 use Rattle.c_values.specs.Values.{word}
 use Rattle.c_words.specs.Words.{pausedWords}
-use Rattle.c_api.specs.Answers.{numberIn, answerWords}
-use Rattle.c_api.specs.Calls.{Called, called, ResumeCall}
+use Rattle.c_answers.specs.Answers.{numberIn, answerWords}
+use Rattle.c_answers.specs.Called.{Called, called}
+use Rattle.c_api.specs.Calls.{ResumeCall}
 
 -- calls of `xangoravit_resume` with these budgets, from a record's words and a scratch: each on the words and the scratch that the one before left, with
 -- some weights slice of length p and some answer slice of 7 words, until an answer's kind (its first word) is not 0, pending, or the budgets are used up.

@@ -8,6 +8,7 @@ use lib.Ieee.{Float, binary64, toBits}
 use Rattle.numbers.specs.Ops.{f64}
 use Rattle.c_values.specs.declared.Floats.{Floats}
 
+-- the i-th word, 0 where there is none, so that it is total
 abbrev pub word : List ℕ → ℕ → ℕ
 word w i = getD w i 0
 
@@ -19,6 +20,7 @@ abbrev pub truthWord : Bool → ℕ
 truthWord true = 1
 truthWord false = 0
 
+-- a value's bits; a NaN has one pattern
 abbrev pub bits : Float → ℕ
 bits x = toBits binary64 x
 

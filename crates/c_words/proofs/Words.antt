@@ -6,9 +6,9 @@ use Prim.Native.Nat.{ℕ}
 use lib.Ieee.{binary64}
 use lib.Ieee.Bits.{ofBits-toBits, ofBits-fits}
 use Rattle.doubles.specs.Fit.{Fit}
-use Rattle.stages.specs.declared.Paused.{Paused}
-use Rattle.stages.specs.declared.Stage.{Stage}
-use Rattle.stages.specs.declared.Stage.the-variants.{Opening, Solving, Searching, Ended}
+use Rattle.records.specs.declared.Paused.{Paused}
+use Rattle.records.specs.declared.Stage.{Stage}
+use Rattle.records.specs.declared.Stage.the-variants.{Opening, Solving, Searching, Ended}
 use Rattle.c_values.specs.Values.{word, truth, truthWord}
 use Rattle.c_words.specs.Words.{stageFrom, stageWord, indexWord, pausedFrom, pausedWords}
 

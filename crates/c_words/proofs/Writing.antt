@@ -4,8 +4,9 @@ use mathlib.Core.List.{List, _∷_}
 use Prim.Native.Nat.{ℕ}
 use lib.ListN.{length}
 use lib.Seq.{sets}
-use Rattle.arrays.specs.Part.{put, put-all}
-use Rattle.stages.specs.declared.Paused.{Paused}
+use Rattle.arrays.specs.Part.{put}
+use Rattle.arrays.proofs.Part.{put-all}
+use Rattle.records.specs.declared.Paused.{Paused}
 use Rattle.c_words.specs.Words.{stageWord, indexWord, scalarsWords, pausedWords}
 
 pub paused-written : (a : Paused) (l : List ℕ) {m : List ℕ} {g i : ℕ} → length l ≡ 16 → g ≡ stageWord (a .stage) → i ≡ indexWord (a .stage)

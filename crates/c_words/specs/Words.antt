@@ -1,28 +1,14 @@
--- Settings, record and answer as words. Definitions only.
+-- Record and answer as words. Definitions only.
 use mathlib.Core.List.{List, [], _∷_}
 use Prim.Native.Nat.{ℕ, zero, suc}
 use Rattle.numbers.specs.Ops.{f64}
-use Rattle.settings.specs.declared.Settings.{Settings}
 use Rattle.lasso_optimizer.specs.declared.Scalars.{Scalars}
-use Rattle.stages.specs.declared.Counts.{Counts}
-use Rattle.stages.specs.declared.Paused.{Paused}
-use Rattle.stages.specs.declared.Stage.{Stage}
-use Rattle.stages.specs.declared.Stage.the-variants.{Opening, Solving, Searching, Ended}
+use Rattle.records.specs.declared.Counts.{Counts}
+use Rattle.records.specs.declared.Paused.{Paused}
+use Rattle.records.specs.declared.Stage.{Stage}
+use Rattle.records.specs.declared.Stage.the-variants.{Opening, Solving, Searching, Ended}
 use Rattle.c_values.specs.Values.{word, truth, truthWord, bits}
 use Rattle.c_words.specs.declared.Told.{Told}
-
--- alpha, l1_ratio, tol, M, R, C, normalise, lazy
-unfoldable pub settingsFrom : List ℕ → Settings
-settingsFrom w = record {
-  alpha = f64 (word w 0);
-  «l1_ratio» = f64 (word w 1);
-  tol = f64 (word w 2);
-  rounds = word w 3;
-  «panel_rows» = word w 4;
-  «panel_cols» = word w 5;
-  normalise = truth (word w 6);
-  lazy = truth (word w 7);
-}
 
 -- the stage and its index; an unknown stage is one that has ended, which is 9
 abbrev pub stageFrom : ℕ → ℕ → Stage
@@ -43,6 +29,7 @@ indexWord (Solving k) = k
 indexWord (Searching j) = j
 indexWord Ended = 0
 
+-- the scalars of a record's words, from word 6 on
 abbrev pub scalarsFrom : List ℕ → Scalars
 scalarsFrom w = record {
   t = f64 (word w 6);

@@ -1,41 +1,21 @@
-// Settings, record and answer as the words of the calls for C and Rust (specs/Words.antt says which), and back.
+// Record and answer as the words of the calls for C and Rust (specs/Words.antt says which), and back.
 use c_values::Floats;
 use c_values::floats_at;
 use c_values::truth_word;
 use c_values::write_floats;
 use lasso_optimizer::Scalars;
-use settings::Settings;
-use stages::Counts;
-use stages::Paused;
-use stages::Rounds;
-use stages::SolverRounds;
-use stages::Stage;
-use stages::Trials;
+use records::Counts;
+use records::Paused;
+use records::Rounds;
+use records::SolverRounds;
+use records::Stage;
+use records::Trials;
 ghost use mathlib.Core.Path.{_≡_};
 ghost use lib.ListN.{length};
 ghost use lib.Seq.{sets};
-ghost use Rattle.c_words.specs.Words.{settingsFrom, stageFrom, scalarsFrom, pausedFrom, stageWord, indexWord, scalarsWords, pausedWords, toldWords};
+ghost use Rattle.c_words.specs.Words.{stageFrom, scalarsFrom, pausedFrom, stageWord, indexWord, scalarsWords, pausedWords, toldWords};
 
-pub fn settings_from(w: &[u64]) -> Settings
-    requires { ⌜ length (now w) ≡ 8 ⌝ }
-    ensures { λ r. ⌜ r ≡ settingsFrom (now (w .entry)) ⌝ }
-{
-    let normalise = w[6] != 0;
-    let lazy = w[7] != 0;
-    let f = floats_at(w, 0);
-    Settings {
-        alpha: f.0,
-        l1_ratio: f.1,
-        tol: f.2,
-        rounds: w[3],
-        panel_rows: w[4] as usize,
-        panel_cols: w[5] as usize,
-        normalise,
-        lazy,
-    }
-}
-
-// An unknown stage is one that has ended: refusal 9.
+// The stage of a word and an index. An unknown word is a fit that has ended, so that the record is refused with 9.
 fn stage_from(k: u64, i: u64) -> Stage
     ensures { λ r. ⌜ r ≡ stageFrom k i ⌝ }
 {
@@ -73,6 +53,7 @@ fn scalars_from(w: &[u64]) -> Scalars
     }
 }
 
+// A record as its 16 words say it. Nothing is tested here: `records::possible` does that.
 pub fn paused_from(w: &[u64]) -> Paused
     requires { ⌜ length (now w) ≡ 16 ⌝ }
     ensures { λ r. ⌜ r ≡ pausedFrom (now (w .entry)) ⌝ }
@@ -103,6 +84,7 @@ fn stage_word(g: Stage) -> u64
     }
 }
 
+// The index of a stage that has one, else 0.
 fn index_word(g: Stage) -> u64
     ensures { λ r. ⌜ r ≡ indexWord g ⌝ }
 {
@@ -124,6 +106,7 @@ fn write_scalars(a: Scalars, out: &mut [u64])
     out[15] = truth_word(a.missed);
 }
 
+// The 16 words that `paused_from` reads back.
 pub fn write_paused(a: Paused, out: &mut [u64])
     requires { ⌜ length (now out) ≡ 16 ⌝ }
     ensures { λ _. ⌜ now (out .exit) ≡ pausedWords a ⌝ }

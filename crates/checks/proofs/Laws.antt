@@ -1,6 +1,6 @@
 -- What 1 to 4 say where none holds, and the sizes of a fit that they accept. Assumes nothing.
-use mathlib.Core.Path.{_≡_, refl, sym, subst, _∙_}
-use mathlib.Core.Bool.{Bool, true, false, _&&_}
+use mathlib.Core.Path.{_≡_, refl, sym, ap, subst, _∙_}
+use mathlib.Core.Bool.{Bool, true, false}
 use Prim.Native.Nat.{ℕ, _+_, _≤_}
 use lib.Dec.{T, leb}
 use borrow.Author.Tests.{leb-true, eqb-true}
@@ -16,21 +16,9 @@ use Rattle.refusal.specs.declared.Checked.{Checked}
 use Rattle.refusal.specs.declared.Checked.the-variants.{Fine}
 use Rattle.refusal.specs.Checks.{ask}
 use Rattle.refusal.proofs.Asking.{both-true, ask-fine}
+use Rattle.refusal.specs.Sizes.{inSize}
+use Rattle.refusal.proofs.Sizes.{size-of}
 use Rattle.checks.specs.Checks.{limitsOf, Accepted}
-
--- 1
-pub record InSize (n p : ℕ) : Type 0 where
-  pub some-rows : 1 ≤ n
-  pub rows : n ≤ 4096
-  pub some-columns : 1 ≤ p
-  pub columns : p ≤ 64
-
-pub size-of : {n p : ℕ} → leb 1 n && leb n 4096 && leb 1 p && leb p 64 ≡ true → InSize n p
-size-of h =
-    let t₁ = both-true _ _ h in
-    let t₂ = both-true _ _ (t₁ .0) in
-    let t₃ = both-true _ _ (t₂ .0) in
-    record { some-rows = leb-true _ _ (t₃ .0); rows = leb-true _ _ (t₃ .1); some-columns = leb-true _ _ (t₂ .1); columns = leb-true _ _ (t₁ .1) }
 
 -- as `let Checked::Fine = k else { .. }` tells it
 pub fine-of : (n p xl yl wl : ℕ) (st : Settings) (room : ℕ) (k : Checked) → k ≡ limitsOf n p xl yl wl st room → k ≡ Fine
@@ -45,7 +33,7 @@ module _ {n p xl yl wl : ℕ} {st : Settings} {room : ℕ} where
       let h₂ = ask-fine _ _ _ (h₁ .1) in
       let h₃ = ask-fine (allowedOf st) Setting (ask (leb (needOf n p st) room) Scratch Fine) (h₂ .1) in
       let h₄ = ask-fine _ _ _ (h₃ .1) in
-      let s = size-of (h₁ .0) in
+      let s = size-of n p (h₁ .0) in
       let l₁ = both-true _ _ (h₂ .0) in
       let l₂ = both-true _ _ (l₁ .0) in
       record {
@@ -65,6 +53,16 @@ module _ {n p xl yl wl : ℕ} {st : Settings} {room : ℕ} where
 
   pub accepted-room : Accepted n p xl yl wl st room → words (sizesOf n p st) ≤ room
   accepted-room a = rw (need-agrees n p st) (a .enough)
+
+-- the sizes that 1 and 3 let pass, and their need
+module _ (n p : ℕ) (st : Settings) {sh : Sizes} (e : sh ≡ sizesOf n p st) where
+  pub small-allowed : inSize n p ≡ true → allowedOf st ≡ true → Small sh
+  small-allowed h a =
+      let s = size-of n p h in
+      rw e (small-sizes n p st (s .rows) (s .columns) (allowed-says st (subst T (sym a) tt) .panels))
+
+  pub need-told : {k : ℕ} → k ≡ words sh → k ≡ needOf n p st
+  need-told h = h ∙ ap words e ∙ need-agrees n p st
 
 -- the sizes of a fit; the stored design has no row or all
 pub record SizesAre (n p : ℕ) (sh : Sizes) : Type 0 where

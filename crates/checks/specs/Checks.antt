@@ -16,15 +16,20 @@ use Rattle.refusal.specs.declared.Refusal.the-variants.{Size, Length, Setting, 
 use Rattle.refusal.specs.declared.Checked.{Checked}
 use Rattle.refusal.specs.declared.Checked.the-variants.{Fine, Bad}
 use Rattle.refusal.specs.Checks.{ask, askValues}
+use Rattle.refusal.specs.Sizes.{inSize}
 use Rattle.design.specs.Statistics.{constantOf}
 
 -- 1, 2, 3, 4; matrix, targets and weights by their lengths
 unfoldable pub limitsOf : ℕ → ℕ → ℕ → ℕ → ℕ → Settings → ℕ → Checked
 limitsOf n p xl yl wl st room =
-    ask (leb 1 n && leb n 4096 && leb 1 p && leb p 64) Size
+    ask (inSize n p) Size
     (ask (eqb xl (n * p) && eqb yl n && eqb wl p) Length
     (ask (allowedOf st) Setting
     (ask (leb (needOf n p st) room) Scratch Fine)))
+
+-- the words of scratch that a fit needs; 0 where a size or a setting is out of range
+unfoldable pub scratchWords : ℕ → ℕ → Settings → ℕ
+scratchWords n p st = cond (inSize n p && allowedOf st) (needOf n p st) 0
 
 abbrev pub askConstant : Found → Checked
 askConstant Clean = Fine

@@ -7,14 +7,13 @@ use layout::sizes_of;
 use refusal::Checked;
 use refusal::Refusal;
 use refusal::at;
+use refusal::in_size;
 use settings::Settings;
 use settings::allowed;
 ghost use mathlib.Core.Path.{_≡_};
-ghost use mathlib.Core.Bool.{_&&_};
-ghost use lib.Dec.{leb};
-ghost use Rattle.checks.specs.Checks.{limitsOf, startValues, Measured};
+ghost use Rattle.checks.specs.Checks.{limitsOf, scratchWords, startValues, Measured};
 
-// 1 to 4. Matrix, targets and weights are given by their lengths.
+// The first of the refusals 1 to 4 that holds. It takes lengths and not slices, so that a start, which has no weights yet, can pass p for theirs.
 pub fn limits(
     n: usize,
     p: usize,
@@ -47,23 +46,20 @@ pub fn limits(
     Checked::Fine
 }
 
-// The range of rows and columns, which 1 asks.
-pub fn in_size(n: usize, p: usize) -> bool
-    ensures { λ r. ⌜ r ≡ (leb 1 n && leb n 4096 && leb 1 p && leb p 64) ⌝ }
+// The words of scratch that a fit needs, 0 where n, p or a setting is out of range: total, so that a caller may ask before it knows that they are allowed.
+pub fn scratch_words(n: usize, p: usize, st: Settings) -> usize
+    ensures { λ r. ⌜ r ≡ scratchWords n p st ⌝ }
 {
-    if n < 1 {
-        return false;
+    if !in_size(n, p) {
+        return 0;
     }
-    if n > 4096 {
-        return false;
+    if !allowed(st) {
+        return 0;
     }
-    if p < 1 {
-        return false;
-    }
-    p <= 64
+    need(sizes_of(n, p, st))
 }
 
-// 5, over matrix and targets, and 6.
+// Refusal 5 over matrix and targets, with its place counted through both; then 6, where the fit normalises. Nothing is written.
 pub fn start_values(x: &[f64], y: &[f64], n: usize, p: usize, normalise: bool) -> Checked
     requires { ⌜ Measured (now x) (now y) n p ⌝ }
     ensures { λ r. ⌜ r ≡ startValues (now (x .entry)) (now (y .entry)) n p normalise ⌝ }

@@ -11,15 +11,16 @@ use Rattle.layout.specs.Slots.{rest}
 use Rattle.layout.specs.Need.{sizesOf, needOf}
 use Rattle.pause.specs.Parts.{none}
 use Rattle.lasso_optimizer.specs.Fit.{fresh}
-use Rattle.stages.specs.declared.Stage.the-variants.{Opening}
-use Rattle.stages.specs.declared.Paused.{Paused}
-use Rattle.stages.specs.Stage.{pausedAt}
+use Rattle.records.specs.declared.Stage.the-variants.{Opening}
+use Rattle.records.specs.declared.Paused.{Paused}
+use Rattle.records.specs.Record.{pausedAt}
 use Rattle.elastic_net.specs.declared.Resumed.{Resumed}
 use Rattle.elastic_net.specs.declared.Started.{Started}
 use Rattle.elastic_net.specs.declared.Started.the-variants.{Ready}
 use Rattle.elastic_net.specs.ElasticNet.{outcome}
 use Rattle.promises.specs.Chain.{Starts, Chain, Enough}
-use Rattle.promises.proofs.Refused.{startCheck, start-accepted}
+use Rattle.promises.specs.Refused.{startCheck}
+use Rattle.promises.proofs.Refused.{start-accepted}
 use Rattle.promises.proofs.Pauses.{pauses-end-as-the-rust}
 use Rattle.corners.specs.Corners.{Ends, Fits, endOf}
 

@@ -30,7 +30,7 @@ use Rattle.smartcore.specs.ElasticNet.{augmentY, optimizeEager, optimizeFit, re
 use Rattle.checks.specs.Checks.{limitsOf, startValues}
 use Rattle.promises.specs.Outcome.{outcomeOf}
 use Rattle.sheet.specs.Bytes.{bigEndian}
-use Rattle.sheet.specs.Sheet.{lengthFits, headerCheck, rowsFrom, roomCheck, matrixOf, targetsOf, headerOf, sheetOf}
+use Rattle.sheet.specs.Sheet.{bodyCheck, rowsFrom, roomCheck, matrixOf, targetsOf, headerOf, bodyRead, headerCheck, sheetOf}
 use Rattle.corners.specs.Corners.{settingsOf, two-rows, FitHolds, SheetHolds, AllHold, p8-input, p8-end, p8-sheet, p9-input, p9-end, table}
 
 -- ---- P8 and P9: what does not depend on the scores
@@ -50,7 +50,7 @@ module _ (M R C : ℕ) where
 -- ---- P8
 
 p8-reads : SheetHolds p8-sheet p8-input
-unfolding sheetOf headerCheck lengthFits bigEndian rowsFrom roomCheck matrixOf targetsOf headerOf grid tab
+unfolding sheetOf headerCheck bodyRead bodyCheck bigEndian rowsFrom roomCheck matrixOf targetsOf headerOf grid tab
 p8-reads R C x y l k = rw (l, k) refl
 
 p8-fits : FitHolds p8-input p8-end

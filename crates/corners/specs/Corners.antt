@@ -12,7 +12,7 @@ use Rattle.settings.specs.declared.Settings.{Settings}
 use Rattle.settings.specs.Settings.{gammaOf, termsOf}
 use Rattle.layout.specs.Need.{sizesOf, needOf}
 use Rattle.checks.specs.Checks.{limitsOf, startValues}
-use Rattle.stages.specs.declared.Counts.{Counts}
+use Rattle.records.specs.declared.Counts.{Counts}
 use Rattle.records.specs.Records.{endedOf}
 use Rattle.ending.specs.End.{gone}
 use Rattle.elastic_net.specs.ElasticNet.{Said, limit, refused, Outcome}

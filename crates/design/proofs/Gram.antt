@@ -3,9 +3,10 @@ use mathlib.Core.Path.{_≡_, sym, _∙_}
 use mathlib.Core.List.{List}
 use Prim.Native.Nat.{ℕ, _+_, _*_, _<_}
 use lib.Ieee.{Float, binary64, nan}
-use Rattle.arrays.specs.Sums.{_!_, fold-ext}
+use Rattle.arrays.specs.Sums.{_!_}
+use Rattle.arrays.proofs.Folds.{fold-ext}
 use Rattle.arrays.proofs.Commute.{times-comm}
-use Rattle.matrices.specs.Grid.{getD-grid}
+use Rattle.matrices.proofs.Grid.{getD-grid}
 use Rattle.design.specs.Eager.{gramOf}
 
 pub gram-symmetric : (k p : ℕ) (d : List Float) (r c : ℕ) → r < p → c < p → gramOf k p d ! (r * p + c) ≡ gramOf k p d ! (c * p + r)

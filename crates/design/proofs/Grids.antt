@@ -5,9 +5,11 @@ use Prim.Native.Nat.{ℕ, _+_, _*_, _≤_, _<_}
 use native.Mathlib.Omega.{arith}
 use lib.ListN.{length}
 use lib.Ieee.{Float, nan}
-use Rattle.arrays.specs.Part.{part, put, tab, length-put, part-put-above, getD-put-below}
+use Rattle.arrays.specs.Part.{part, put, tab}
+use Rattle.arrays.proofs.Part.{length-put, part-put-above, getD-put-below}
 use Rattle.arrays.specs.Sums.{_!_}
-use Rattle.matrices.specs.Grid.{grid, length-grid, put-grid-none, put-grid-more}
+use Rattle.matrices.specs.Grid.{grid}
+use Rattle.matrices.proofs.Grid.{length-grid, put-grid-none, put-grid-more}
 
 -- the first i of n rows of `cols` entries from `out` are written, and all else is as it was in s₀
 pub record Written (s₀ : List Float) (out n cols : ℕ) (f : ℕ → ℕ → Float) (s : List Float) (i : ℕ) : Type 0 where

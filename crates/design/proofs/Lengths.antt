@@ -1,4 +1,5 @@
--- The statistics have an element to each column, and a product with the design one to each row or each column, whichever way the design is held; and memory as long is right too. Assumes nothing.
+-- The statistics have an element to each column, and a product with the design one to each row or each column, in either mode; and what holds of a memory holds
+-- of every one that is as long. Assumes nothing.
 use mathlib.Core.Path.{_≡_, sym}
 use mathlib.Core.Bool.{Bool, true, false}
 use mathlib.Core.List.{List}
@@ -8,9 +9,9 @@ use native.Mathlib.Omega.{arith}
 use borrow.Author.Tests.{eq-eqb, ne-eqb}
 use lib.ListN.{length, length-append}
 use lib.Ieee.{Float}
-use Rattle.arrays.specs.Part.{length-tab}
-use Rattle.arrays.specs.Vectors.{length-fill}
-use Rattle.matrices.specs.Products.{length-rows, length-columns}
+use Rattle.arrays.proofs.Part.{length-tab}
+use Rattle.arrays.proofs.Lengths.{length-fill}
+use Rattle.matrices.proofs.Lengths.{length-rows, length-columns}
 use Rattle.settings.specs.declared.Terms.{Terms}
 use Rattle.layout.specs.declared.Sizes.{Sizes}
 use Rattle.layout.specs.declared.Places.{Places}

@@ -18,6 +18,7 @@ designAt normalise t n p m ce sc i j =
     let raw = m ! (i * p + j) in
     cond (ltb i n) (t .gamma ⊗ cond normalise ((raw ⊖ ce ! j) ⊘ sc ! j) raw) (cond (eqb i (n + j)) (t .padding) plus0)
 
+-- the whole design, n + p rows
 unfoldable pub designOf : Bool → Terms → ℕ → ℕ → List Float → List Float → List Float → List Float
 designOf normalise t n p m ce sc = grid (designAt normalise t n p m ce sc) (n + p) p
 

@@ -18,10 +18,12 @@ use Rattle.lazy_normalization.specs.Lazy.{lazyRows, lazyColumns}
 abbrev pub isLazy : Sizes → Bool
 isLazy sh = eqb (sh .rows) 0
 
+-- the design times xs; a design that is not stored is made from the matrix m
 unfoldable pub matvecOf : Sizes → Terms → List Float → Store → List Float → List Float
 matvecOf sh t m v xs =
     cond (isLazy sh) (lazyRows (sh .n) (sh .p) t m (v CENTRE) (v SCALE) (v RECIP) xs) (rowsOf (v DESIGN) (sh .rows) (sh .p) xs)
 
+-- the transposed design times xs
 unfoldable pub transposedOf : Sizes → Terms → List Float → Store → List Float → List Float
 transposedOf sh t m v xs =
     cond (isLazy sh) (lazyColumns (sh .n) (sh .p) t m (v CENTRE) (v SCALE) (v RECIP) xs) (columnsOf (v DESIGN) (sh .rows) (sh .p) xs)

@@ -1,4 +1,4 @@
--- What the functions of `eager` write row by row, and what they ask. Definitions only.
+-- What the functions of `eager` write row by row, and what they ask. Inner definitions: no promise names them.
 use mathlib.Core.Bool.{Bool, cond}
 use mathlib.Core.List.{List}
 use Prim.Native.Nat.{ℕ, _+_, _*_, _≤_}
@@ -23,12 +23,14 @@ diagonalAt x r j = cond (eqb r j) x plus0
 abbrev pub addedAt : List Float → ℕ → ℕ → ℕ → ℕ → ℕ → Float
 addedAt s g p at r c = s ! (g + r * p + c) ⊕ s ! (at + r) ⊗ s ! (at + c)
 
+-- a row of m, with centres and scales before the place that is written
 pub record Row (m : List Float) (at p : ℕ) (s : List Float) (ce sc out : ℕ) : Type 0 where
   pub matrix : at + p ≤ length m
   pub centres : ce + p ≤ out
   pub scales : sc + p ≤ out
   pub room : out + p ≤ length s
 
+-- the same for n rows
 pub record Matrix (m : List Float) (n p : ℕ) (s : List Float) (ce sc out : ℕ) : Type 0 where
   pub matrix : n * p ≤ length m
   pub centres : ce + p ≤ out

@@ -10,15 +10,16 @@ ghost use lib.ListN.{length};
 ghost use mathlib.Core.Bool.{true, false};
 ghost use Rattle.arrays.specs.Part.{part, put, tab};
 ghost use Rattle.matrices.specs.Grid.{grid};
-ghost use Rattle.layout.specs.Slots.{Room, Has, vars, rest};
+ghost use Rattle.layout.specs.Slots.{Room, Makes};
 ghost use Rattle.design.specs.Statistics.{Given};
 ghost use Rattle.design.specs.Eager.{designStore, gramStore};
 ghost use Rattle.design.specs.Rows.{rowOf, diagonalAt, addedAt, Row, Matrix, Added};
 
-// gamma times the matrix, and p rows of padding below. Not for a lazy fit, whose slot is empty.
+// Writes the stored design: gamma times the matrix, normalised where that is asked, and p rows of padding below. Not for a lazy fit, whose slot is empty.
 pub fn augment(m: &[f64], sh: Sizes, normalise: bool, t: Terms, s: &mut [f64], l: Places)
-    requires { ⌜ Given sh l (now m) (now s) × (sh .rows ≡ sh .n + sh .p) ⌝ }
-    ensures { λ _. ⌜ Has sh (rest sh (now (s .entry))) (designStore sh normalise t (now (m .entry)) (vars sh (now (s .entry)))) (now (s .exit)) ⌝ }
+    requires { ⌜ Given sh l (now m) (now s) ⌝ }
+    requires { ⌜ sh .rows ≡ sh .n + sh .p ⌝ }
+    ensures { λ _. ⌜ Makes sh (designStore sh normalise t (now (m .entry))) (now (s .entry)) (now (s .exit)) ⌝ }
 {
     let ce = l.centre;
     let sc = l.scale;
@@ -41,7 +42,9 @@ fn rows(
     out: usize,
 )
     requires { ⌜ Matrix (now m) n p (now s) ce sc out ⌝ }
-    ensures { λ _. ⌜ now (s .exit) ≡ put (now (s .entry)) out (grid (λ i. rowOf normalise gamma (now (m .entry)) (i * p) (part (now (s .entry)) ce p) (part (now (s .entry)) sc p)) n p) ⌝ }
+    ensures { λ _. ⌜ now (s .exit)
+        ≡ put (now (s .entry)) out (grid (λ i. rowOf normalise gamma (now (m .entry)) (i * p) (part (now (s .entry)) ce p)
+        (part (now (s .entry)) sc p)) n p) ⌝ }
 {
     for i in 0..n {
         let at = i * p;
@@ -49,7 +52,7 @@ fn rows(
     }
 }
 
-// The row of m from `at`.
+// The row of m that begins at `at`, into `out`. The mode is tested here, once a row, and not for each entry.
 fn row(
     m: &[f64],
     at: usize,
@@ -62,7 +65,8 @@ fn row(
     p: usize,
 )
     requires { ⌜ Row (now m) at p (now s) ce sc out ⌝ }
-    ensures { λ _. ⌜ now (s .exit) ≡ put (now (s .entry)) out (tab (rowOf normalise gamma (now (m .entry)) at (part (now (s .entry)) ce p) (part (now (s .entry)) sc p)) p) ⌝ }
+    ensures { λ _. ⌜ now (s .exit)
+        ≡ put (now (s .entry)) out (tab (rowOf normalise gamma (now (m .entry)) at (part (now (s .entry)) ce p) (part (now (s .entry)) sc p)) p) ⌝ }
 {
     if normalise {
         normal_row(m, at, gamma, s, ce, sc, out, p);
@@ -82,7 +86,8 @@ fn normal_row(
     p: usize,
 )
     requires { ⌜ Row (now m) at p (now s) ce sc out ⌝ }
-    ensures { λ _. ⌜ now (s .exit) ≡ put (now (s .entry)) out (tab (rowOf true gamma (now (m .entry)) at (part (now (s .entry)) ce p) (part (now (s .entry)) sc p)) p) ⌝ }
+    ensures { λ _. ⌜ now (s .exit)
+        ≡ put (now (s .entry)) out (tab (rowOf true gamma (now (m .entry)) at (part (now (s .entry)) ce p) (part (now (s .entry)) sc p)) p) ⌝ }
 {
     for j in 0..p {
         s[out + j] = gamma * ((m[at + j] - s[ce + j]) / s[sc + j]);
@@ -90,7 +95,8 @@ fn normal_row(
 }
 
 fn raw_row(m: &[f64], at: usize, gamma: f64, s: &mut [f64], out: usize, p: usize)
-    requires { ⌜ (at + p ≤ length (now m)) × (out + p ≤ length (now s)) ⌝ }
+    requires { ⌜ at + p ≤ length (now m) ⌝ }
+    requires { ⌜ out + p ≤ length (now s) ⌝ }
     ensures { λ _. ⌜ now (s .exit) ≡ put (now (s .entry)) out (tab (rowOf false gamma (now (m .entry)) at (now (s .entry)) (now (s .entry))) p) ⌝ }
 {
     for j in 0..p {
@@ -113,7 +119,7 @@ fn padding(s: &mut [f64], out: usize, p: usize, x: f64)
 // The Gram of the stored design: each row's products are added to all entries at once, so that memory is read in its order.
 pub fn gram(sh: Sizes, s: &mut [f64], l: Places)
     requires { ⌜ Room sh l (now s) ⌝ }
-    ensures { λ _. ⌜ Has sh (rest sh (now (s .entry))) (gramStore sh (vars sh (now (s .entry)))) (now (s .exit)) ⌝ }
+    ensures { λ _. ⌜ Makes sh (gramStore sh) (now (s .entry)) (now (s .exit)) ⌝ }
 {
     let g = l.gram;
     let p = sh.p;

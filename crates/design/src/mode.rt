@@ -8,9 +8,13 @@ ghost use Rattle.arrays.specs.Part.{part, put};
 ghost use Rattle.layout.specs.Slots.{vars};
 ghost use Rattle.design.specs.Mode.{matvecOf, transposedOf, Held};
 
-// The design times the vector at v, which lies below the columns' numbers; the output lies between the Gram and the stored design.
+// The design times the vector at v, from the stored design or, in a lazy fit, from the lent matrix. v lies below the columns' numbers and the output between
+// the Gram and the stored design, so that nothing which is read is overwritten.
 pub fn matvec(m: &[f64], sh: Sizes, t: Terms, s: &mut [f64], l: Places, v: usize, out: usize)
-    requires { ⌜ Held sh l (now m) (now s) × ((v + sh .p ≤ l .centre) × ((l .y ≤ out) × (out + sh .k ≤ l .design))) ⌝ }
+    requires { ⌜ Held sh l (now m) (now s) ⌝ }
+    requires { ⌜ v + sh .p ≤ l .centre ⌝ }
+    requires { ⌜ l .y ≤ out ⌝ }
+    requires { ⌜ out + sh .k ≤ l .design ⌝ }
     ensures { λ _. ⌜ now (s .exit) ≡ put (now (s .entry)) out (matvecOf sh t (now (m .entry)) (vars sh (now (s .entry))) (part (now (s .entry)) v (sh .p))) ⌝ }
 {
     if sh.rows == 0 {
@@ -20,10 +24,14 @@ pub fn matvec(m: &[f64], sh: Sizes, t: Terms, s: &mut [f64], l: Places, v: usize
     matrices::products::rows(s, l.design, sh.rows, sh.p, v, out);
 }
 
-// The transposed design times the vector at v; places the other way round.
+// The transposed design times the vector at v. Here v lies between the Gram and the stored design, and the output below the columns' numbers.
 pub fn transposed(m: &[f64], sh: Sizes, t: Terms, s: &mut [f64], l: Places, v: usize, out: usize)
-    requires { ⌜ Held sh l (now m) (now s) × ((out + sh .p ≤ l .centre) × ((l .y ≤ v) × (v + sh .k ≤ l .design))) ⌝ }
-    ensures { λ _. ⌜ now (s .exit) ≡ put (now (s .entry)) out (transposedOf sh t (now (m .entry)) (vars sh (now (s .entry))) (part (now (s .entry)) v (sh .k))) ⌝ }
+    requires { ⌜ Held sh l (now m) (now s) ⌝ }
+    requires { ⌜ out + sh .p ≤ l .centre ⌝ }
+    requires { ⌜ l .y ≤ v ⌝ }
+    requires { ⌜ v + sh .k ≤ l .design ⌝ }
+    ensures { λ _. ⌜ now (s .exit)
+        ≡ put (now (s .entry)) out (transposedOf sh t (now (m .entry)) (vars sh (now (s .entry))) (part (now (s .entry)) v (sh .k))) ⌝ }
 {
     if sh.rows == 0 {
         lazy_normalization::columns(m, sh.n, sh.p, t, s, l, v, out);

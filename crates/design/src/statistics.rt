@@ -11,12 +11,15 @@ use numbers::bits::magnitude;
 ghost use mathlib.Core.Path.{_≡_};
 ghost use Prim.Native.Nat.{_*_, _≤_};
 ghost use lib.ListN.{length};
-ghost use Rattle.layout.specs.Slots.{Has, vars, rest};
+ghost use Rattle.layout.specs.Slots.{Makes};
 ghost use Rattle.design.specs.Statistics.{constantOf, statisticsStore, targetsStore, Given, Targets};
 
-// The lowest constant column. It writes nothing that is lent, so that refusal 6 is found before the first word is written.
+// The lowest constant column, that is, one whose deviation is below epsilon; a NaN is not. It writes nothing that is lent, so that refusal 6 is found before
+// the first word is written.
 pub fn first_constant(m: &[f64], n: usize, p: usize) -> Found
-    requires { ⌜ (n * p ≤ length (now m)) × ((n ≤ 4096) × (p ≤ 64)) ⌝ }
+    requires { ⌜ n * p ≤ length (now m) ⌝ }
+    requires { ⌜ n ≤ 4096 ⌝ }
+    requires { ⌜ p ≤ 64 ⌝ }
     ensures { λ r. ⌜ r ≡ constantOf (now (m .entry)) n p ⌝ }
 {
     let mut t = [0.0; 128];
@@ -29,9 +32,10 @@ pub fn first_constant(m: &[f64], n: usize, p: usize) -> Found
     Found::Clean
 }
 
+// The columns' means and deviations, into their slots; where the fit does not normalise 0 and 1, with which normalising changes nothing.
 pub fn statistics(m: &[f64], sh: Sizes, normalise: bool, s: &mut [f64], l: Places)
     requires { ⌜ Given sh l (now m) (now s) ⌝ }
-    ensures { λ _. ⌜ Has sh (rest sh (now (s .entry))) (statisticsStore sh normalise (now (m .entry)) (vars sh (now (s .entry)))) (now (s .exit)) ⌝ }
+    ensures { λ _. ⌜ Makes sh (statisticsStore sh normalise (now (m .entry))) (now (s .entry)) (now (s .exit)) ⌝ }
 {
     let ce = l.centre;
     let sc = l.scale;
@@ -48,7 +52,7 @@ pub fn statistics(m: &[f64], sh: Sizes, normalise: bool, s: &mut [f64], l: Place
 // The targets with p zeros, less the mean over all of them.
 pub fn targets(y: &[f64], sh: Sizes, s: &mut [f64], l: Places)
     requires { ⌜ Targets sh l (now y) (now s) ⌝ }
-    ensures { λ _. ⌜ Has sh (rest sh (now (s .entry))) (targetsStore sh (now (y .entry)) (vars sh (now (s .entry)))) (now (s .exit)) ⌝ }
+    ensures { λ _. ⌜ Makes sh (targetsStore sh (now (y .entry))) (now (s .entry)) (now (s .exit)) ⌝ }
 {
     let out = l.y;
     let n = sh.n;

@@ -7,12 +7,14 @@ use Rattle.numbers.specs.Ops.{_⊖_, _⊗_, _⊘_}
 use Rattle.numbers.specs.Constants.{two}
 use Rattle.arrays.specs.Part.{part, put}
 use Rattle.arrays.specs.Sums.{normInfOf}
-use Rattle.arrays.specs.Vectors.{mapOf, zipOf, length-map, length-zip}
+use Rattle.arrays.specs.Vectors.{mapOf, zipOf}
+use Rattle.arrays.proofs.Lengths.{length-map, length-zip}
 use Rattle.arrays.proofs.Commute.{times-comm}
 use Rattle.settings.specs.declared.Terms.{Terms}
 use Rattle.layout.specs.declared.Sizes.{Sizes}
 use Rattle.layout.specs.declared.Places.{Places}
-use Rattle.layout.specs.Slots.{Store, Has, Laid, Room, vars, rest, off, start, then, next, got, words}
+use Rattle.layout.specs.Slots.{Store, Has, Laid, Room, vars, rest, off, words}
+use Rattle.layout.proofs.Slots.{start, then, next, got}
 use Rattle.layout.specs.Slots.{Slot.W, Slot.XNU, Slot.Y, Slot.Z, Slot.NU}
 use Rattle.design.specs.Mode.{matvecOf, transposedOf, Held}
 use Rattle.lasso_optimizer.specs.Opening.{residualStore, shrunkStore, gapStore, primalOf, dualOf, gapOf}

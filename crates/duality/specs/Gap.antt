@@ -1,4 +1,4 @@
--- What the gap part leaves and answers. Definitions only.
+-- What the gap part leaves and answers. Inner definitions: no promise names them.
 use mathlib.Core.Path.{_≡_}
 use mathlib.Core.List.{List}
 use lib.Ieee.{Float}

@@ -12,7 +12,7 @@ use numbers::order::maximum;
 use settings::Terms;
 ghost use mathlib.Core.Path.{_≡_};
 ghost use Rattle.design.specs.Mode.{Held};
-ghost use Rattle.layout.specs.Slots.{Room, Has, vars, rest};
+ghost use Rattle.layout.specs.Slots.{Room, vars, rest, Makes};
 ghost use Rattle.lasso_optimizer.specs.Opening.{residualStore, shrunkStore, primalOf, dualOf};
 ghost use Rattle.duality.specs.Gap.{DidGap};
 
@@ -21,10 +21,10 @@ pub struct Values {
     pub dual: f64,
 }
 
-// z, nu and xnu.
+// Writes z, the design times the weights less the targets; nu, twice z; and xnu, the transposed design times nu.
 fn residuals(m: &[f64], sh: Sizes, t: Terms, s: &mut [f64], l: Places)
     requires { ⌜ Held sh l (now m) (now s) ⌝ }
-    ensures { λ _. ⌜ Has sh (rest sh (now (s .entry))) (residualStore sh t (now (m .entry)) (vars sh (now (s .entry)))) (now (s .exit)) ⌝ }
+    ensures { λ _. ⌜ Makes sh (residualStore sh t (now (m .entry))) (now (s .entry)) (now (s .exit)) ⌝ }
 {
     matvec(m, sh, t, s, l, l.w, l.z);
     sub(s, l.z, l.z, l.y, sh.k);
@@ -32,10 +32,10 @@ fn residuals(m: &[f64], sh: Sizes, t: Terms, s: &mut [f64], l: Places)
     transposed(m, sh, t, s, l, l.nu, l.xnu);
 }
 
-// nu is made smaller where the largest of xnu is above lambda.
+// Makes nu smaller where the largest of xnu is above lambda; a NaN is not.
 fn shrink(s: &mut [f64], sh: Sizes, t: Terms, l: Places, most: f64)
     requires { ⌜ Room sh l (now s) ⌝ }
-    ensures { λ _. ⌜ Has sh (rest sh (now (s .entry))) (shrunkStore sh t most (vars sh (now (s .entry)))) (now (s .exit)) ⌝ }
+    ensures { λ _. ⌜ Makes sh (shrunkStore sh t most) (now (s .entry)) (now (s .exit)) ⌝ }
 {
     if most > t.lambda {
         times(s, l.nu, t.lambda / most, l.nu, sh.k);
@@ -43,6 +43,7 @@ fn shrink(s: &mut [f64], sh: Sizes, t: Terms, l: Places, most: f64)
     }
 }
 
+// The primal value: z times itself, plus lambda times the sum of the weights' magnitudes.
 fn primal(s: &[f64], sh: Sizes, t: Terms, l: Places) -> f64
     requires { ⌜ Room sh l (now s) ⌝ }
     ensures { λ r. ⌜ r ≡ primalOf sh t (vars sh (now (s .entry))) ⌝ }
@@ -50,6 +51,7 @@ fn primal(s: &[f64], sh: Sizes, t: Terms, l: Places) -> f64
     dot(s, l.z, s, l.z, sh.k) + t.lambda * norm_1(s, l.w, sh.p)
 }
 
+// The larger of the dual value at nu and the best one before. A NaN is passed over.
 fn dual_value(s: &[f64], sh: Sizes, l: Places, dual: f64) -> f64
     requires { ⌜ Room sh l (now s) ⌝ }
     ensures { λ r. ⌜ r ≡ dualOf sh dual (vars sh (now (s .entry))) ⌝ }
@@ -58,7 +60,7 @@ fn dual_value(s: &[f64], sh: Sizes, l: Places, dual: f64) -> f64
     maximum(dual, new)
 }
 
-// The gap and the best dual value so far, of the weights and the best one before.
+// The gap between the primal value of the weights and the best dual value so far, and that value. `dual` is the best one before.
 pub fn gap(m: &[f64], sh: Sizes, t: Terms, s: &mut [f64], l: Places, dual: f64) -> Values
     requires { ⌜ Held sh l (now m) (now s) ⌝ }
     ensures { λ r. ⌜ DidGap sh t (now (m .entry)) (rest sh (now (s .entry))) (vars sh (now (s .entry))) dual r (now (s .exit)) ⌝ }

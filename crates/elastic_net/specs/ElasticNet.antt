@@ -2,16 +2,17 @@
 use mathlib.Core.Bool.{Bool, cond}
 use mathlib.Core.List.{List}
 use Prim.Native.Nat.{ℕ}
-use lib.Dec.{eqb}
 use lib.ListN.{length}
 use lib.Ieee.{Float}
 use Rattle.arrays.specs.Sums.{plus0}
 use Rattle.arrays.specs.Vectors.{fillOf}
-use Rattle.refusal.specs.declared.Refusal.{Refusal}
-use Rattle.refusal.specs.declared.Refusal.the-variants.{Search, Tolerance, Record}
+use Rattle.refusal.specs.declared.Refusal.the-variants.{Record}
+use Rattle.refusal.specs.declared.Way.{Way}
+use Rattle.refusal.specs.declared.Way.the-variants.{Converged, Limit}
+use Rattle.refusal.specs.declared.Failure.{Failure}
 use Rattle.refusal.specs.declared.Checked.{Checked}
 use Rattle.refusal.specs.declared.Checked.the-variants.{Fine, Bad}
-use Rattle.refusal.specs.Refusal.{numberOf, placeOf}
+use Rattle.refusal.specs.Refusal.{numberOf, placeOf, refusedBy}
 use Rattle.settings.specs.declared.Settings.{Settings}
 use Rattle.settings.specs.Settings.{termsOf}
 use Rattle.layout.specs.declared.Sizes.{Sizes}
@@ -22,17 +23,17 @@ use Rattle.pause.specs.Parts.{none, End, end}
 use Rattle.pause.specs.Paused.{State, dataOf, call}
 use Rattle.lasso_optimizer.specs.Data.{Data, storeOf}
 use Rattle.lasso_optimizer.specs.Fit.{parts, fresh}
-use Rattle.stages.specs.declared.Counts.{Counts}
-use Rattle.stages.specs.declared.Paused.{Paused}
-use Rattle.stages.specs.declared.Stage.the-variants.{Opening}
+use Rattle.records.specs.declared.Counts.{Counts}
+use Rattle.records.specs.declared.Paused.{Paused}
+use Rattle.records.specs.declared.Stage.the-variants.{Opening}
 use Rattle.stages.specs.declared.How.{How}
-use Rattle.stages.specs.declared.How.the-variants.{Converged, Limit, Refused}
-use Rattle.stages.specs.Stage.{countsBack, stateOf, pausedOf, pausedAt, howOf}
+use Rattle.stages.specs.declared.How.the-variants.{Done, Failed}
+use Rattle.records.specs.Record.{countsBack, stateOf, pausedOf, pausedAt}
+use Rattle.stages.specs.Stage.{howOf}
 use Rattle.checks.specs.Checks.{limitsOf, startValues}
 use Rattle.records.specs.Records.{possibleOf, endedOf}
 use Rattle.beginning.specs.Start.{startStore}
 use Rattle.ending.specs.End.{weightsOf, interceptOf, gone}
-use Rattle.elastic_net.specs.declared.Way.the-variants.{Converged as ConvergedW, Limit as LimitW}
 use Rattle.elastic_net.specs.declared.Answer.{Answer}
 use Rattle.elastic_net.specs.declared.Answer.the-variants.{Pending as PendingA, Done as DoneA, Refused as RefusedA}
 use Rattle.elastic_net.specs.declared.Resumed.{Resumed}
@@ -47,10 +48,13 @@ pub data Said : Type 0 where
   limit : Float → Counts → Said
   refused : ℕ → ℕ → Said
 
+abbrev pub doneAs : Way → Float → Counts → Said
+doneAs Converged b c = converged b c
+doneAs Limit b c = limit b c
+
 abbrev pub said : Answer → Said
 said PendingA = pending
-said (DoneA b ConvergedW c) = converged b c
-said (DoneA b LimitW c) = limit b c
+said (DoneA b w c) = doneAs w b c
 said (RefusedA r) = refused (numberOf r) (placeOf r)
 
 -- what a resuming call answers, and what it leaves in the record, the weights and the scratch
@@ -65,20 +69,15 @@ outcome r w s = record { answer = said (r .answer); paused = r .paused; weights 
 
 -- ---- a resuming call
 
--- a fit's own refusals: 100 trials without acceptance, and a solver tolerance at or below 0
-abbrev pub failedOf : ℕ → Refusal
-failedOf k = cond (eqb k 7) Search Tolerance
-
+-- a fit that failed answers as a refusal
 abbrev pub endAnswer : How → Float → Counts → Said
-endAnswer Converged b c = converged b c
-endAnswer Limit b c = limit b c
-endAnswer (Refused k) b c = refused (numberOf (failedOf k)) (placeOf (failedOf k))
+endAnswer (Done w) b c = doneAs w b c
+endAnswer (Failed f) b c = refused (numberOf (refusedBy f)) (placeOf (refusedBy f))
 
 -- a fit that is refused has no weights: they are +0
 abbrev pub endWeights : How → ℕ → List Float → List Float
-endWeights Converged p ws = ws
-endWeights Limit p ws = ws
-endWeights (Refused k) p ws = fillOf plus0 p
+endWeights (Done w) p ws = ws
+endWeights (Failed f) p ws = fillOf plus0 p
 
 module _ (sh : Sizes) (normalise : Bool) (gamma : Float) (ys : List Float) where
   -- e is the scratch's excess
@@ -90,11 +89,12 @@ module _ (sh : Sizes) (normalise : Bool) (gamma : Float) (ys : List Float) where
     scratch = gone sh e;
   }
 
-  unfoldable pub ending : List Float → End Data → Outcome
+  -- the same of an end of the machine
+  unfoldable pub ending : List Float → End Failure Data → Outcome
   ending e (end h c d) = endOutcome e (howOf h) (countsBack c) (storeOf d)
 
   -- how the state of a fit shows, w being the weights as they were
-  unfoldable pub shown : List Float → List Float → Progress (End Data) (State Data) → Outcome
+  unfoldable pub shown : List Float → List Float → Progress (End Failure Data) (State Data) → Outcome
   shown e w (over x) = ending e x
   shown e w (going x) = record { answer = pending; paused = pausedOf x; weights = w; scratch = flatly sh (storeOf (dataOf x)) e }
 
@@ -122,6 +122,7 @@ abbrev pub saidS : Started → SaidS
 saidS (ReadyS a) = ready a
 saidS (RefusedS r) = refusedS (numberOf r) (placeOf r)
 
+-- what a start answers, and what it leaves in the scratch
 pub record Begun : Type 0 where
   pub answer : SaidS
   pub scratch : List Float
@@ -133,6 +134,7 @@ abbrev pub byStartCheck : Checked → List Float → Begun → Begun
 byStartCheck Fine s o = o
 byStartCheck (Bad r) s o = record { answer = refusedS (numberOf r) (placeOf r); scratch = s }
 
+-- n, p, matrix, targets, settings, scratch: 1 to 4, with p for the number of weights, then 5 and 6, each of which changes nothing; else a fresh fit
 unfoldable pub startOf : ℕ → ℕ → List Float → List Float → Settings → List Float → Begun
 startOf n p x y st s =
     let sh = sizesOf n p st in
@@ -143,13 +145,3 @@ startOf n p x y st s =
       answer = ready (pausedAt Opening 0 none (fresh p (tm .lambda)));
       scratch = flatly sh (startStore sh (st .normalise) tm x y) (rest sh s);
     }))
-
--- ---- what the inner functions answer
-
-abbrev pub unchangedOf : Checked → Paused → Resumed
-unchangedOf Fine a = record { answer = PendingA; paused = a }
-unchangedOf (Bad r) a = record { answer = RefusedA r; paused = a }
-
-abbrev pub notStarted : Checked → Started
-notStarted Fine = RefusedS Record
-notStarted (Bad r) = RefusedS r

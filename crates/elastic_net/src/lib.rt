@@ -12,6 +12,8 @@ use layout::Sizes;
 use layout::need;
 use layout::place;
 use layout::sizes_of;
+use records::Counts;
+use records::Paused;
 use records::clean;
 use records::ended;
 use records::first;
@@ -19,12 +21,12 @@ use records::possible;
 use records::spent;
 use refusal::Checked;
 use refusal::Refusal;
+use refusal::Way;
+use refusal::refused_by;
 use settings::Settings;
 use settings::Terms;
 use settings::terms_of;
-use stages::Counts;
 use stages::How;
-use stages::Paused;
 use stages::Stepped;
 use steps::run_steps;
 ghost use mathlib.Core.Path.{_≡_};
@@ -37,19 +39,14 @@ ghost use Rattle.layout.specs.Slots.{Room, vars, rest};
 ghost use Rattle.layout.specs.Need.{sizesOf, Small};
 ghost use Rattle.design.specs.Mode.{Held};
 ghost use Rattle.lasso_optimizer.specs.Fit.{parts};
-ghost use Rattle.stages.specs.Stage.{stateOf, Did};
+ghost use Rattle.records.specs.Record.{stateOf};
+ghost use Rattle.stages.specs.Stage.{Did};
 ghost use Rattle.ending.specs.End.{Ends};
 ghost use Rattle.checks.specs.Checks.{Accepted};
 ghost use Rattle.records.specs.Records.{possibleOf};
-ghost use Rattle.elastic_net.specs.ElasticNet.{failedOf, unchangedOf, notStarted, outcome, begun, endOutcome, shown, resumeOf, startOf};
+ghost use Rattle.elastic_net.specs.ElasticNet.{outcome, begun, endOutcome, shown, resumeOf, startOf};
 
-// How a fit that is done ended: with converged weights, or after M rounds.
-pub enum Way {
-    Converged,
-    Limit,
-}
-
-// Done carries the intercept and the counts.
+// What a resuming call answers. Done carries the intercept, how the fit ended, and the counts; the weights are in the lent slice.
 pub enum Answer {
     Pending,
     Done(f64, Way, Counts),
@@ -66,42 +63,7 @@ pub enum Started {
     Refused(Refusal),
 }
 
-fn failed(k: u64) -> Refusal
-    ensures { λ r. ⌜ r ≡ failedOf k ⌝ }
-{
-    if k == 7 {
-        Refusal::Search
-    } else {
-        Refusal::Tolerance
-    }
-}
-
-// A call that is refused hands the record back as it was.
-fn unchanged(c: Checked, rec: Paused) -> Resumed
-    ensures { λ r. ⌜ r ≡ unchangedOf c rec ⌝ }
-{
-    match c {
-        Checked::Bad(r) => Resumed {
-            answer: Answer::Refused(r),
-            paused: rec,
-        },
-        Checked::Fine => Resumed {
-            answer: Answer::Pending,
-            paused: rec,
-        },
-    }
-}
-
-fn not_started(c: Checked) -> Started
-    ensures { λ r. ⌜ r ≡ notStarted c ⌝ }
-{
-    match c {
-        Checked::Bad(r) => Started::Refused(r),
-        Checked::Fine => Started::Refused(Refusal::Record),
-    }
-}
-
-// The steps of a call.
+// Up to `budget` steps. A fit that may open no round ends at the limit before its first step, whatever the budget.
 fn go(
     m: &[f64],
     sh: Sizes,
@@ -113,12 +75,15 @@ fn go(
     rec: Paused,
     budget: u64,
 ) -> Stepped
-    requires { ⌜ Held sh l (now m) (now s) × ((limit ≤ 1000) × (possibleOf limit rec ≡ true)) ⌝ }
-    ensures { λ o. ⌜ Did sh (rest sh (now (s .entry))) (call (parts sh tm tol (now (m .entry))) limit budget (stateOf rec (vars sh (now (s .entry))))) o (now (s .exit)) ⌝ }
+    requires { ⌜ Held sh l (now m) (now s) ⌝ }
+    requires { ⌜ limit ≤ 1000 ⌝ }
+    requires { ⌜ possibleOf limit rec ≡ true ⌝ }
+    ensures { λ o. ⌜ Did sh (rest sh (now (s .entry))) (call (parts sh tm tol (now (m .entry))) limit budget
+        (stateOf rec (vars sh (now (s .entry))))) o (now (s .exit)) ⌝ }
 {
     if spent(limit, rec) {
         let c = rec.counts;
-        return Stepped::Over(How::Limit, c);
+        return Stepped::Over(How::Done(Way::Limit), c);
     }
     run_steps(m, sh, tm, tol, limit, s, l, rec, budget)
 }
@@ -135,7 +100,7 @@ fn tidy(s: &mut [f64], sh: Sizes, l: Places, budget: u64)
     sweep(s, l.z, 3 * sh.k);
 }
 
-// An end: the weights, +0 in the scratch, and the answer.
+// The end of a fit: the weights, +0 in the needed scratch, and the answer. The weights of a fit that failed are +0.
 fn finish(
     s: &mut [f64],
     sh: Sizes,
@@ -147,32 +112,30 @@ fn finish(
     how: How,
     c: Counts,
 ) -> Resumed
-    requires { ⌜ Ends sh l (now s) (now y) (now w) × Small sh ⌝ }
-    ensures { λ r. ⌜ outcome r (now (w .exit)) (now (s .exit)) ≡ endOutcome sh normalise gamma (now (y .entry)) (rest sh (now (s .entry))) how c (vars sh (now (s .entry))) ⌝ }
+    requires { ⌜ Ends sh l (now s) (now y) (now w) ⌝ }
+    requires { ⌜ Small sh ⌝ }
+    ensures { λ r. ⌜ outcome r (now (w .exit)) (now (s .exit))
+        ≡ endOutcome sh normalise gamma (now (y .entry)) (rest sh (now (s .entry))) how c (vars sh (now (s .entry))) ⌝ }
 {
     let e = ended(c);
     let b = solution(s, sh, l, normalise, gamma, y, w);
     wipe(s, sh, need(sh));
     match how {
-        How::Converged => Resumed {
-            answer: Answer::Done(b, Way::Converged, c),
+        How::Done(way) => Resumed {
+            answer: Answer::Done(b, way, c),
             paused: e,
         },
-        How::Limit => Resumed {
-            answer: Answer::Done(b, Way::Limit, c),
-            paused: e,
-        },
-        How::Refused(k) => {
+        How::Failed(f) => {
             fill(w, 0, sh.p, 0.0);
             Resumed {
-                answer: Answer::Refused(failed(k)),
+                answer: Answer::Refused(refused_by(f)),
                 paused: e,
             }
         }
     }
 }
 
-// A call that is not refused.
+// A call that passed every check: its steps, and then the record to resume from or the end.
 fn accepted(
     n: usize,
     p: usize,
@@ -184,8 +147,10 @@ fn accepted(
     w: &mut [f64],
     budget: u64,
 ) -> Resumed
-    requires { ⌜ Accepted n p (length (now x)) (length (now y)) (length (now w)) st (length (now s)) × (possibleOf (st .rounds) rec ≡ true) ⌝ }
-    ensures { λ r. ⌜ outcome r (now (w .exit)) (now (s .exit)) ≡ shown (sizesOf n p st) (st .normalise) (termsOf st n .gamma) (now (y .entry)) (rest (sizesOf n p st) (now (s .entry))) (now (w .entry))
+    requires { ⌜ Accepted n p (length (now x)) (length (now y)) (length (now w)) st (length (now s)) ⌝ }
+    requires { ⌜ possibleOf (st .rounds) rec ≡ true ⌝ }
+    ensures { λ r. ⌜ outcome r (now (w .exit)) (now (s .exit))
+        ≡ shown (sizesOf n p st) (st .normalise) (termsOf st n .gamma) (now (y .entry)) (rest (sizesOf n p st) (now (s .entry))) (now (w .entry))
         (call (parts (sizesOf n p st) (termsOf st n) (st .tol) (now (x .entry))) (st .rounds) budget (stateOf rec (vars (sizesOf n p st) (now (s .entry))))) ⌝ }
 {
     let sh = sizes_of(n, p, st);
@@ -204,7 +169,8 @@ fn accepted(
     }
 }
 
-// Total, for all input: the answer, the record, and what weights and scratch then hold are `resumeOf`.
+// Takes up to `budget` steps and answers Pending, with the record for the next call, or the end of the fit. Input that is refused changes nothing, and the
+// record comes back as it was. Total, for all input: answer, record, weights and scratch are `resumeOf`.
 pub fn resume(
     n: usize,
     p: usize,
@@ -216,30 +182,38 @@ pub fn resume(
     w: &mut [f64],
     budget: u64,
 ) -> Resumed
-    ensures { λ r. ⌜ outcome r (now (w .exit)) (now (s .exit)) ≡ resumeOf n p (now (x .entry)) (now (y .entry)) st rec (now (s .entry)) (now (w .entry)) budget ⌝ }
+    ensures { λ r. ⌜ outcome r (now (w .exit)) (now (s .exit))
+        ≡ resumeOf n p (now (x .entry)) (now (y .entry)) st rec (now (s .entry)) (now (w .entry)) budget ⌝ }
 {
     let c = limits(n, p, x.len(), y.len(), w.len(), st, s.len());
-    let Checked::Fine = c else {
-        return unchanged(c, rec);
-    };
+    if let Checked::Bad(r) = c {
+        return Resumed {
+            answer: Answer::Refused(r),
+            paused: rec,
+        };
+    }
     if !possible(st.rounds, rec) {
-        return unchanged(Checked::Bad(Refusal::Record), rec);
+        return Resumed {
+            answer: Answer::Refused(Refusal::Record),
+            paused: rec,
+        };
     }
     accepted(n, p, x, y, st, rec, s, w, budget)
 }
 
-// Total, for all input: the answer and what the scratch then holds are `startOf`. It takes no step.
+// Checks the input, writes the needed scratch and answers the first record. It takes no step, and where it refuses it writes nothing. Total, for all input:
+// answer and scratch are `startOf`.
 pub fn start(n: usize, p: usize, x: &[f64], y: &[f64], st: Settings, s: &mut [f64]) -> Started
     ensures { λ r. ⌜ begun r (now (s .exit)) ≡ startOf n p (now (x .entry)) (now (y .entry)) st (now (s .entry)) ⌝ }
 {
     let c = limits(n, p, x.len(), y.len(), p, st, s.len());
-    let Checked::Fine = c else {
-        return not_started(c);
-    };
+    if let Checked::Bad(r) = c {
+        return Started::Refused(r);
+    }
     let c = start_values(x, y, n, p, st.normalise);
-    let Checked::Fine = c else {
-        return not_started(c);
-    };
+    if let Checked::Bad(r) = c {
+        return Started::Refused(r);
+    }
     let sh = sizes_of(n, p, st);
     let l = place(sh);
     let tm = terms_of(st, n);

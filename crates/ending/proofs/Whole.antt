@@ -9,13 +9,15 @@ use lib.ListN.{length, set, drop}
 use lib.Seq.{sets-eq}
 use lib.Ieee.{Float, nan}
 use Rattle.numbers.specs.Ops.{_⊖_, _⊗_}
-use Rattle.arrays.specs.Part.{part, put, tab, length-part, length-tab, getD-part, part-all, put-all}
+use Rattle.arrays.specs.Part.{part, put, tab}
+use Rattle.arrays.proofs.Part.{length-part, length-tab, getD-part, part-all, put-all}
 use Rattle.arrays.specs.Sums.{_!_, plus0, meanOf, productOf}
-use Rattle.arrays.specs.Vectors.{mapOf, fillOf, length-fill}
+use Rattle.arrays.specs.Vectors.{mapOf, fillOf}
+use Rattle.arrays.proofs.Lengths.{length-fill}
 use Rattle.arrays.proofs.Turns.{Made, kept, made-more, made-all}
 use Rattle.layout.specs.declared.Sizes.{Sizes}
 use Rattle.layout.specs.declared.Places.{Places}
-use Rattle.layout.specs.Slots.{vars, rest, words, need-is}
+use Rattle.layout.specs.Slots.{vars, rest, words}
 use Rattle.layout.specs.Slots.{Slot.W}
 use Rattle.ending.specs.End.{Ends, rescaledOf, weightsOf, interceptOf, gone}
 
@@ -36,7 +38,7 @@ unfolding put gone
 wiped sh need s s′ e h q =
     let xs = fillOf plus0 need in
     let k : 0 + length xs ≡ need = omega (arith, length-fill plus0 need) in
-    q ∙ sets-eq xs s 0 (omega arith) ∙ ap (λ (n : ℕ). xs ++ drop n s) k ∙ rw (need-is, e)
+    q ∙ sets-eq xs s 0 (omega arith) ∙ ap (λ (n : ℕ). xs ++ drop n s) k ∙ rw e
 
 -- the answers: w₁ the copied weights, w₂ the rescaled, w₃ the swept
 module _ (sh : Sizes) (l : Places) {s ys w₀ : List Float} (h : Ends sh l s ys w₀) where

@@ -17,6 +17,7 @@ use Rattle.layout.specs.Slots.{Slot.W, Slot.CENTRE, Slot.SCALE}
 unfoldable pub rescaledOf : Bool → Float → ℕ → List Float → List Float → List Float
 rescaledOf normalise gamma p ws sc = cond normalise (zipOf (λ (w d : Float). gamma ⊗ w ⊘ d) p ws sc) (mapOf (λ (w : Float). gamma ⊗ w) p ws)
 
+-- of the weights and the deviations in the store
 unfoldable pub weightsOf : Sizes → Bool → Float → Store → List Float
 weightsOf sh normalise gamma v = rescaledOf normalise gamma (sh .p) (v W) (v SCALE)
 
@@ -29,6 +30,7 @@ interceptOf sh normalise gamma ys v =
 unfoldable pub gone : Sizes → List Float → List Float
 gone sh e = fillOf plus0 (words sh) ++ e
 
+-- scratch, n targets, and p weights to write
 pub record Ends (sh : Sizes) (l : Places) (s ys ws : List Float) : Type 0 where
   pub room : Room sh l s
   pub rows : sh .n ≤ 4096

@@ -17,7 +17,8 @@ ghost use Rattle.ending.specs.End.{Ends, rescaledOf, weightsOf, intercep
 
 // gamma * w / deviation, in place of the weights.
 fn rescale(w: &mut [f64], gamma: f64, s: &[f64], sc: usize, p: usize)
-    requires { ⌜ (length (now w) ≡ p) × (sc + p ≤ length (now s)) ⌝ }
+    requires { ⌜ length (now w) ≡ p ⌝ }
+    requires { ⌜ sc + p ≤ length (now s) ⌝ }
     ensures { λ _. ⌜ now (w .exit) ≡ rescaledOf true gamma p (now (w .entry)) (part (now (s .entry)) sc p) ⌝ }
 {
     for i in 0..p {
@@ -25,6 +26,7 @@ fn rescale(w: &mut [f64], gamma: f64, s: &[f64], sc: usize, p: usize)
     }
 }
 
+// gamma * w, for a fit that did not normalise.
 fn scale(w: &mut [f64], gamma: f64, p: usize)
     requires { ⌜ length (now w) ≡ p ⌝ }
     ensures { λ _. ⌜ now (w .exit) ≡ rescaledOf false gamma p (now (w .entry)) (now (w .entry)) ⌝ }
@@ -34,7 +36,8 @@ fn scale(w: &mut [f64], gamma: f64, p: usize)
     }
 }
 
-// The weights and the intercept of a fit that is done.
+// Writes the weights in the scale of the lent matrix and answers the intercept: the targets' mean, less the means' product with the weights where the fit
+// normalised.
 pub fn solution(
     s: &[f64],
     sh: Sizes,
@@ -45,7 +48,8 @@ pub fn solution(
     w: &mut [f64],
 ) -> f64
     requires { ⌜ Ends sh l (now s) (now y) (now w) ⌝ }
-    ensures { λ b. ⌜ (now (w .exit) ≡ weightsOf sh normalise gamma (vars sh (now (s .entry)))) × (b ≡ interceptOf sh normalise gamma (now (y .entry)) (vars sh (now (s .entry)))) ⌝ }
+    ensures { λ b. ⌜ (now (w .exit)
+        ≡ weightsOf sh normalise gamma (vars sh (now (s .entry)))) × (b ≡ interceptOf sh normalise gamma (now (y .entry)) (vars sh (now (s .entry)))) ⌝ }
 {
     copy_from(w, 0, s, l.w, sh.p);
     let mu = mean(y, 0, sh.n);
@@ -60,9 +64,10 @@ pub fn solution(
     canonical(mu)
 }
 
-// The needed scratch becomes +0.
+// The needed scratch becomes +0; what lies behind it stays.
 pub fn wipe(s: &mut [f64], sh: Sizes, need: usize)
-    requires { ⌜ (need ≡ words sh) × (need ≤ length (now s)) ⌝ }
+    requires { ⌜ need ≡ words sh ⌝ }
+    requires { ⌜ need ≤ length (now s) ⌝ }
     ensures { λ _. ⌜ now (s .exit) ≡ gone sh (rest sh (now (s .entry))) ⌝ }
 {
     fill(s, 0, need, 0.0);

@@ -10,8 +10,9 @@ use native.Mathlib.Omega.{arith}
 use lib.ListN.{length}
 use lib.Seq.{ext-getD}
 use lib.Ieee.{Float, nan}
-use Rattle.arrays.specs.Part.{put, tab, length-put, length-tab, part-put-same, getD-part, getD-tab, getD-put-above, getD-put-below}
-use Rattle.arrays.specs.Part.{put-append, put-comm, put-put-same, put-none, tab-ext}
+use Rattle.arrays.specs.Part.{put, tab}
+use Rattle.arrays.proofs.Part.{length-put, length-tab, part-put-same, getD-part, getD-tab, getD-put-above, getD-put-below}
+use Rattle.arrays.proofs.Part.{put-append, put-comm, put-put-same, put-none, tab-ext}
 use Rattle.arrays.specs.Sums.{_!_}
 use Rattle.gram_panels.specs.Panels.{mat}
 

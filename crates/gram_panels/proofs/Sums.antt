@@ -5,8 +5,10 @@ use Prim.Native.Nat.{ℕ, zero, suc, _+_, _*_, _≤_, _<_}
 use native.Mathlib.Nat.{add-zero, add-suc, add-mul}
 use native.Mathlib.Omega.{arith}
 use lib.Ieee.{Float, nan}
-use Rattle.arrays.specs.Part.{put, tab, tab-ext, getD-put-above}
-use Rattle.arrays.specs.Sums.{_!_, foldTo, fold-none, fold-ext}
+use Rattle.arrays.specs.Part.{put, tab}
+use Rattle.arrays.proofs.Part.{tab-ext, getD-put-above}
+use Rattle.arrays.specs.Sums.{_!_, foldTo}
+use Rattle.arrays.proofs.Folds.{fold-none, fold-ext}
 use Rattle.arrays.proofs.Turns.{Made, made-of, made-again}
 use Rattle.gram_panels.specs.Panels.{sumAt, EntryRow}
 use Rattle.gram_panels.proofs.Mats.{row-le, getD-put-tab, put-self}

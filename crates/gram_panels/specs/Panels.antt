@@ -1,4 +1,5 @@
--- What filling a panel and adding the products of two panels make of the scratch, from the innermost loop outwards, and what each asks. Definitions only.
+-- Inner definitions: no promise names them.
+-- What filling a panel and adding the products of two panels make of the scratch, from the innermost loop outwards, and what each asks.
 use mathlib.Core.List.{List}
 use Prim.Native.Nat.{ℕ, zero, suc, _+_, _-_, _*_, _≤_, _<_}
 use lib.ListN.{length}
@@ -28,6 +29,7 @@ least a b = a - (a - b)
 abbrev pub normAt : List Float → ℕ → List Float → ℕ → ℕ → ℕ → Float
 normAt m at s ce sc b = (m ! (at + b) ⊖ s ! (ce + b)) ⊘ s ! (sc + b)
 
+-- a row of m, with centres and scales before the place that is written
 pub record FillRow (m : List Float) (at : ℕ) (s : List Float) (ce sc to n : ℕ) : Type 0 where
   pub matrix : at + n ≤ length m
   pub centres : ce + n ≤ to
@@ -42,6 +44,7 @@ cell m p s ce sc i j = (m ! (i * p + j) ⊖ s ! (ce + j)) ⊘ s ! (sc + j)
 abbrev pub panelAt : List Float → ℕ → List Float → ℕ → ℕ → ℕ → ℕ → ℕ → ℕ → Float
 panelAt m p s ce sc row col i b = cell m p s ce sc (row + i) (col + b)
 
+-- a panel within the matrix, with centres and scales before the place that is written
 pub record Fill (m : List Float) (p row nr col nc : ℕ) (s : List Float) (ce sc to cc : ℕ) : Type 0 where
   pub matrix : (row + nr) * p ≤ length m
   pub rows : row + nr ≤ length m
@@ -85,6 +88,7 @@ pub record EntryRow (s : List Float) (at w l r cc nr : ℕ) : Type 0 where
 unfoldable pub carry : List Float → ℕ → ℕ → ℕ → ℕ → ℕ → ℕ → ℕ → ℕ → Float
 carry s g p l r cc i a b = products (s ! (g + a * p + b)) (λ k. s ! (l + k * cc + a)) (λ k. s ! (r + k * cc + b)) i
 
+-- both panels lie before the sums, and a block may end anywhere in its last row
 pub record Block (s : List Float) (g p nj nk d l r cc nr : ℕ) : Type 0 where
   pub room : g + nj * p + nk ≤ length s + p
   pub wide : nk ≤ p

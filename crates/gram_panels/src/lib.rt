@@ -4,6 +4,7 @@ ghost use mathlib.Core.Path.{_≡_};
 ghost use Rattle.arrays.specs.Part.{put, tab};
 ghost use Rattle.gram_panels.specs.Panels.{least, normAt, FillRow, mat, same, panelAt, Fill, wid, fourAt, AddFour, sumAt, EntryRow, carry, Block};
 
+// The smaller of the two: a panel at the edge has only what is left.
 pub fn least_of(a: usize, b: usize) -> usize
     ensures { λ r. ⌜ r ≡ least a b ⌝ }
 {
@@ -22,7 +23,7 @@ fn fill_row(m: &[f64], at: usize, s: &mut [f64], ce: usize, sc: usize, to: usize
     }
 }
 
-// The panel of nr rows from `row` and nc columns from `col`, a row to each cc words.
+// Writes the panel of nr rows from `row` and nc columns from `col`, normalised, a row to each cc words.
 pub fn fill_panel(
     m: &[f64],
     p: usize,
@@ -124,7 +125,8 @@ fn entry_row(s: &mut [f64], at: usize, w: usize, l: usize, r: usize, cc: usize, 
     few_rows(s, at, w, l + q, r + q, cc, nr - i);
 }
 
-// The products of nr rows of the panels, entry row by entry row.
+// Adds the products of nr rows of the panels at l and r to nj rows of the sums at g, each nk wide at most: row a ends at the diagonal, which is d + a columns
+// further on.
 pub fn block(
     s: &mut [f64],
     g: usize,

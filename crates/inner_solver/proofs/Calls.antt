@@ -8,11 +8,14 @@ use lib.Ieee.{Float}
 use Rattle.numbers.specs.Ops.{_⊕_, _⊖_, _⊗_, _⊘_}
 use Rattle.arrays.specs.Part.{part, put}
 use Rattle.arrays.specs.Sums.{productOf}
-use Rattle.arrays.specs.Vectors.{zipOf, length-zip}
-use Rattle.matrices.specs.Products.{rowsOf, length-rows}
+use Rattle.arrays.specs.Vectors.{zipOf}
+use Rattle.arrays.proofs.Lengths.{length-zip}
+use Rattle.matrices.specs.Products.{rowsOf}
+use Rattle.matrices.proofs.Lengths.{length-rows}
 use Rattle.layout.specs.declared.Sizes.{Sizes}
 use Rattle.layout.specs.declared.Places.{Places}
-use Rattle.layout.specs.Slots.{Slot, Store, Has, Laid, vars, vars-of, then, size, off, _⟨_≔_⟩}
+use Rattle.layout.specs.Slots.{Slot, Store, Has, Laid, vars, size, off, _⟨_≔_⟩}
+use Rattle.layout.proofs.Slots.{vars-of, then}
 use Rattle.layout.specs.Slots.{Slot.D1, Slot.D2, Slot.PRB, Slot.PRS, Slot.DXU, Slot.R, Slot.RR, Slot.ZS, Slot.ZZ, Slot.PS, Slot.PP, Slot.ATAX, Slot.GRAM}
 use Rattle.bg_solver.specs.declared.shared.Seven.{Seven}
 use Rattle.bg_solver.specs.Shared.{aimed, directMem, advanceMem}

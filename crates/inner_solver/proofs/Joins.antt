@@ -5,9 +5,12 @@ use Prim.Native.Nat.{ℕ, _+_, _*_}
 use native.Mathlib.Omega.{arith}
 use lib.ListN.{length}
 use lib.Ieee.{Float, nan}
-use Rattle.arrays.specs.Part.{part, put, put-append, tab, tab-ext, length-tab, getD-part, part-put-above, part-put-same, part-put-apart, apart-of}
-use Rattle.arrays.specs.Sums.{_!_, fold-ext}
-use Rattle.matrices.specs.Products.{rowsOf, length-rows}
+use Rattle.arrays.specs.Part.{part, put, tab}
+use Rattle.arrays.proofs.Part.{put-append, tab-ext, length-tab, getD-part, part-put-above, part-put-same, part-put-apart, apart-of}
+use Rattle.arrays.specs.Sums.{_!_}
+use Rattle.arrays.proofs.Folds.{fold-ext}
+use Rattle.matrices.specs.Products.{rowsOf}
+use Rattle.matrices.proofs.Lengths.{length-rows}
 use Rattle.layout.specs.declared.Places.{Places}
 use Rattle.inner_solver.specs.Inner.{lowSolved, highSolved, solvedOf, lowTimes, highTimes, timesOf, Reads, Solves, Times}
 

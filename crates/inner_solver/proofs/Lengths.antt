@@ -5,7 +5,7 @@ use Prim.Native.Nat.{ℕ, _*_}
 use native.Mathlib.Omega.{arith}
 use lib.ListN.{length, length-append}
 use lib.Ieee.{Float}
-use Rattle.arrays.specs.Part.{length-tab}
+use Rattle.arrays.proofs.Part.{length-tab}
 use Rattle.inner_solver.specs.Inner.{halves, solvedOf, timesOf}
 
 length-halves : (p : ℕ) (f g : ℕ → Float) → length (halves p f g) ≡ 2 * p

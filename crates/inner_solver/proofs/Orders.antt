@@ -6,7 +6,8 @@ use native.Mathlib.Nat.{not-suc-le-zero, le-of-suc-le-suc}
 use lib.ListN.{length, getD}
 use lib.Ieee.{Float}
 use Rattle.layout.specs.Store.{upd}
-use Rattle.layout.specs.Slots.{Slot, Store, num, names, slot-of, listed, _⟨_≔_⟩}
+use Rattle.layout.specs.Slots.{Slot, Store, num, names, _⟨_≔_⟩}
+use Rattle.layout.proofs.Slots.{slot-of, listed}
 use Rattle.layout.specs.Slots.{Slot.W, Slot.DXU, Slot.R, Slot.RR, Slot.ZS, Slot.ZZ, Slot.PS, Slot.PP, Slot.ATAX}
 
 -- P of each slot of a list

@@ -7,13 +7,15 @@ use lib.Ieee.{Float}
 use Rattle.numbers.specs.Ops.{_⊕_, _⊖_, _⊗_, _⊘_}
 use Rattle.arrays.specs.Part.{part, put}
 use Rattle.arrays.specs.Sums.{productOf, norm2Of, normTwoOf}
-use Rattle.arrays.specs.Vectors.{zipOf, length-zip}
+use Rattle.arrays.specs.Vectors.{zipOf}
+use Rattle.arrays.proofs.Lengths.{length-zip}
 use Rattle.arrays.proofs.Norms.{norm-two}
 use Rattle.matrices.specs.Products.{rowsOf}
 use Rattle.layout.specs.declared.Sizes.{Sizes}
 use Rattle.layout.specs.declared.Places.{Places}
 use Rattle.layout.specs.Store.{upd}
-use Rattle.layout.specs.Slots.{Store, Has, Laid, got, _⟨_≔_⟩}
+use Rattle.layout.specs.Slots.{Store, Has, Laid, _⟨_≔_⟩}
+use Rattle.layout.proofs.Slots.{got}
 use Rattle.layout.specs.Slots.{Slot.D1, Slot.D2, Slot.PRB, Slot.PRS, Slot.DXU, Slot.GRAD, Slot.R, Slot.RR, Slot.ZS, Slot.ZZ, Slot.PS, Slot.PP, Slot.GRAM}
 use Rattle.bg_solver.specs.declared.shared.Turned.{Turned}
 use Rattle.bg_solver.specs.Shared.{aimed, directMem, advanceMem, turnBy}

@@ -44,6 +44,7 @@ timesOf p gram d1 d2 x = halves p (lowTimes p (rowsOf gram p p x) d1 d2 x) (high
 
 -- ---- over the store
 
+-- the Newton system: its matrix is symmetric, so that both products are one
 unfoldable pub systemOf : Sizes → Store → System
 systemOf sh v = record {
   size = 2 * sh .p;
@@ -85,10 +86,12 @@ turnStore sh first bkden v = withWork sh (roundOf sh first bkden v .work .pp) (r
 unfoldable pub turnError : Sizes → Bool → Float → Float → Store → Float
 turnError sh first bkden bnrm v = errorOf (systemOf sh v) bnrm (roundOf sh first bkden v .work)
 
+-- what `begin` answers and leaves; e is the excess of the scratch
 pub record DidBegin (sh : Sizes) (e : List Float) (v : Store) (bnrm : Float) (m : List Float) : Type 0 where
   pub is : bnrm ≡ bnrmOf sh v
   pub left : Has sh e (beginStore sh v) m
 
+-- what `turn` answers and leaves
 pub record DidTurn (sh : Sizes) (e : List Float) (first : Bool) (bkden bnrm tol : Float) (v : Store) (a : Turned) (m : List Float) : Type 0 where
   pub is : a ≡ turnBy tol (turnError sh first bkden bnrm v) (roundOf sh first bkden v .bkden)
   pub left : Has sh e (turnStore sh first bkden v) m
@@ -107,6 +110,7 @@ pub record Reads (m : List Float) (p a b c x out : ℕ) : Type 0 where
   pub off-third : out < c + p → out + 2 * p ≤ c
   pub off-vector : out < x + 2 * p → out + 2 * p ≤ x
 
+-- the slots that are read, and behind them the one that is written
 pub record Solves (m : List Float) (p : ℕ) (l : Places) (b out : ℕ) : Type 0 where
   pub d1-d2 : l .d1 + p ≤ l .d2
   pub d2-prb : l .d2 + p ≤ l .prb
@@ -115,6 +119,7 @@ pub record Solves (m : List Float) (p : ℕ) (l : Places) (b out : ℕ) : Type 0
   pub b-out : b + 2 * p ≤ out
   pub room : out + 2 * p ≤ length m
 
+-- the slots that are read, and elsewhere the one that is written; the Gram lies behind them all
 pub record Times (m : List Float) (p : ℕ) (l : Places) (x out : ℕ) : Type 0 where
   pub d1-d2 : l .d1 + p ≤ l .d2
   pub d2-x : l .d2 + p ≤ x

@@ -18,6 +18,8 @@ ghost use Rattle.matrices.specs.Products.{rowsOf};
 ghost use Rattle.layout.specs.Slots.{Room, vars, rest};
 ghost use Rattle.inner_solver.specs.Inner.{lowSolved, highSolved, lowTimes, highTimes, solvedOf, timesOf, Reads, Solves, Times, DidBegin, DidTurn};
 
+// The solver's first lines, from the direction that the last round left: the residual, a copy of it, and the preconditioned one. Answers the norm of the
+// right side.
 pub fn begin(s: &mut [f64], sh: Sizes, l: Places) -> f64
     requires { ⌜ Room sh l (now s) ⌝ }
     ensures { λ r. ⌜ DidBegin sh (rest sh (now (s .entry))) (vars sh (now (s .entry))) r (now (s .exit)) ⌝ }
@@ -30,6 +32,7 @@ pub fn begin(s: &mut [f64], sh: Sizes, l: Places) -> f64
     norm_2(s, l.grad, n)
 }
 
+// One round of the solver. `first` says that the directions begin anew; `bkden` is the bknum of the round before. Answers the error and the next bkden.
 pub fn turn(
     s: &mut [f64],
     sh: Sizes,
@@ -62,7 +65,7 @@ pub fn turn(
     answered(err, bknum, tol)
 }
 
-// solve_preconditioner, from the vector at b.
+// The Rust's solve_preconditioner, of the vector at b: its lower half, then its upper.
 fn precondition(s: &mut [f64], p: usize, l: Places, b: usize, out: usize)
     requires { ⌜ Solves (now s) p l b out ⌝ }
     ensures { λ _. ⌜ now (s .exit) ≡ put (now (s .entry)) out (solvedOf p (part (now (s .entry)) (l .d1) p) (part (now (s .entry)) (l .d2) p)
@@ -93,11 +96,12 @@ fn high_solved(s: &mut [f64], p: usize, d2: usize, prb: usize, prs: usize, b: us
     }
 }
 
-// mat_vec_mul, of the vector at x.
+// The Rust's mat_vec_mul, of the vector at x. The Gram's product with the lower half stands in a slot of its own meanwhile.
 fn times(s: &mut [f64], p: usize, l: Places, x: usize, out: usize)
     requires { ⌜ Times (now s) p l x out ⌝ }
     ensures { λ _. ⌜ now (s .exit) ≡ put (put (now (s .entry)) (l .atax) (rowsOf (part (now (s .entry)) (l .gram) (p * p)) p p (part (now (s .entry)) x p)))
-        out (timesOf p (part (now (s .entry)) (l .gram) (p * p)) (part (now (s .entry)) (l .d1) p) (part (now (s .entry)) (l .d2) p) (part (now (s .entry)) x (2 * p))) ⌝ }
+        out (timesOf p (part (now (s .entry)) (l .gram) (p * p)) (part (now (s .entry)) (l .d1) p) (part (now (s .entry)) (l .d2) p)
+        (part (now (s .entry)) x (2 * p))) ⌝ }
 {
     rows(s, l.gram, p, p, x, l.atax);
     low_times(s, p, l.d1, l.d2, l.atax, x, out);

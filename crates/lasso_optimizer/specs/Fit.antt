@@ -9,11 +9,13 @@ use Rattle.settings.specs.declared.Terms.{Terms}
 use Rattle.layout.specs.declared.Sizes.{Sizes}
 use Rattle.layout.specs.Slots.{Store, Has}
 use Rattle.newton.specs.Newton.{startT}
-use Rattle.pause.specs.Parts.{Opened, ready, done, tiny, Turned, more, stop, Tried, accept, halve, Parts, End}
+use Rattle.refusal.specs.declared.Failure.{Failure}
+use Rattle.refusal.specs.declared.Failure.the-variants.{Search}
+use Rattle.pause.specs.Parts.{Opened, ready, done, fails, Turned, more, stop, Tried, accept, halve, Parts, End}
 use Rattle.pause.specs.Unbroken.{unbroken}
 use Rattle.lasso_optimizer.specs.declared.Scalars.{Scalars}
 use Rattle.lasso_optimizer.specs.declared.Opened.{Opened as OpenedE}
-use Rattle.lasso_optimizer.specs.declared.Opened.the-variants.{Ready, Done, Tiny}
+use Rattle.lasso_optimizer.specs.declared.Opened.the-variants.{Ready, Done, Failed}
 use Rattle.lasso_optimizer.specs.declared.Turned.{Turned as TurnedE}
 use Rattle.lasso_optimizer.specs.declared.Turned.the-variants.{More, Stop}
 use Rattle.lasso_optimizer.specs.declared.Tried.{Tried as TriedE}
@@ -24,7 +26,7 @@ use Rattle.lasso_optimizer.specs.Solving.{turns, aim}
 use Rattle.lasso_optimizer.specs.Trial.{tries}
 
 -- with a solver limit of 5,000, counted from 1, and 100 trials
-unfoldable pub parts : Sizes → Terms → Float → List Float → Parts Data
+unfoldable pub parts : Sizes → Terms → Float → List Float → Parts Failure Data
 parts sh tm tol m = record {
   opens = opens sh tm m tol;
   turns = turns sh;
@@ -32,6 +34,7 @@ parts sh tm tol m = record {
   tries = tries sh tm m;
   solves = 4999;
   trials = 100;
+  unaccepted = Search;
 }
 
 -- the scalars of a fresh fit
@@ -50,20 +53,20 @@ fresh p lambda = record {
 }
 
 -- the unbroken fit of at most M rounds, from the vectors v
-unfoldable pub optimized : Sizes → Terms → Float → List Float → ℕ → Store → End Data
+unfoldable pub optimized : Sizes → Terms → Float → List Float → ℕ → Store → End Failure Data
 optimized sh tm tol m M v = unbroken (parts sh tm tol m) M (held (fresh (sh .p) (tm .lambda)) v)
 
 -- ---- the parts' answers as the code gives them, and the memory left beside them
 
-unfoldable pub openedRes : Opened Data → OpenedE
+unfoldable pub openedRes : Opened Failure Data → OpenedE
 openedRes (ready d) = Ready (scalarsOf d)
 openedRes (done d) = Done
-openedRes (tiny d) = Tiny
+openedRes (fails x d) = Failed x
 
-unfoldable pub openedData : Opened Data → Data
+unfoldable pub openedData : Opened Failure Data → Data
 openedData (ready d) = d
 openedData (done d) = d
-openedData (tiny d) = d
+openedData (fails x d) = d
 
 unfoldable pub turnedRes : Turned Data → TurnedE
 turnedRes (more d) = More (scalarsOf d)
@@ -81,7 +84,8 @@ unfoldable pub triedData : Tried Data → Data
 triedData (accept d) = d
 triedData (halve d) = d
 
-pub record DidOpen (sh : Sizes) (e : List Float) (o : Opened Data) (a : OpenedE) (m : List Float) : Type 0 where
+-- what the code answers and leaves where a part finds o; e is the excess of the scratch
+pub record DidOpen (sh : Sizes) (e : List Float) (o : Opened Failure Data) (a : OpenedE) (m : List Float) : Type 0 where
   pub is : a ≡ openedRes o
   pub left : Has sh e (storeOf (openedData o)) m
 

@@ -16,7 +16,9 @@ use Rattle.layout.specs.Slots.{Slot.W, Slot.U, Slot.Q1, Slot.Q2, Slot.D1, Slot.
 use Rattle.inner_solver.specs.Inner.{beginStore, bnrmOf}
 use Rattle.design.specs.Mode.{matvecOf, transposedOf}
 use Rattle.newton.specs.Newton.{nextT, overSum, overDifference, sumOfSquares, differenceOfSquares, g1Of, gradOf, prbAt, prsOf, tolerance}
-use Rattle.pause.specs.Parts.{Opened, ready, done, tiny}
+use Rattle.refusal.specs.declared.Failure.{Failure}
+use Rattle.refusal.specs.declared.Failure.the-variants.{Tolerance}
+use Rattle.pause.specs.Parts.{Opened, ready, done, fails}
 use Rattle.lasso_optimizer.specs.declared.Scalars.{Scalars}
 use Rattle.lasso_optimizer.specs.Data.{Data, held, opened}
 
@@ -49,9 +51,9 @@ module _ (sh : Sizes) where
   pcgtolOf r a gap v = tolerance (not (eqb r 0) && not (a .missed)) gap (norm2Of (2 * sh .p) (v GRAD))
 
   -- the solver's tolerance `pcg` is tested, and the solver begins
-  unfoldable pub readyBy : Scalars → Float → Float → Float → Store → Opened Data
+  unfoldable pub readyBy : Scalars → Float → Float → Float → Store → Opened Failure Data
   readyBy a t dual pcg v =
-      cond (le pcg plus0) (tiny (held (opened a t dual pcg (a .bnrm)) v)) (ready (held (opened a t dual pcg (bnrmOf sh v)) (beginStore sh v)))
+      cond (le pcg plus0) (fails Tolerance (held (opened a t dual pcg (a .bnrm)) v)) (ready (held (opened a t dual pcg (bnrmOf sh v)) (beginStore sh v)))
 
   module _ (tm : Terms) where
     -- nu made smaller where the largest of |xnu|, `most`, is above lambda
@@ -76,6 +78,7 @@ module _ (sh : Sizes) where
           ⟨ NU ≔ (λ u. mapOf (λ (a : Float). two ⊗ a) (sh .k) (u Z)) ⟩
           ⟨ XNU ≔ (λ u. transposedOf sh tm m u (u NU)) ⟩
 
+      -- then nu made smaller
       unfoldable pub gapStore : Store → Store
       gapStore v = shrunkStore (normInfOf (sh .p) (residualStore v XNU)) (residualStore v)
 
@@ -87,16 +90,18 @@ module _ (sh : Sizes) where
           ⟨ XNU ≔ (λ u. g1Of (sh .p) t (u XNU) (u Q1) (u Q2)) ⟩
           ⟨ GRAD ≔ (λ u. gradOf (sh .p) (tm .lambda) t (u XNU) (u Q1) (u Q2)) ⟩
 
+      -- all Newton terms, the preconditioner last
       unfoldable pub newtonStore : Float → Store → Store
       newtonStore t v = preconditionerStore (gradientStore t (barrierStore t v))
 
       module _ (tol : Float) where
         -- the gap and the dual value are tested; then t, the Newton part, and the solver
-        unfoldable pub openBy : ℕ → Scalars → Float → Float → Store → Opened Data
+        unfoldable pub openBy : ℕ → Scalars → Float → Float → Store → Opened Failure Data
         openBy r a gap dual v =
             let t = nextT (sh .p) (a .s) gap (a .t) in
             let u = newtonStore t v in
             cond (lt (gap ⊘ dual) tol) (done (held (opened a (a .t) dual (a .tol) (a .bnrm)) v)) (readyBy a t dual (pcgtolOf r a gap u) u)
 
-        unfoldable pub opens : ℕ → Data → Opened Data
+        -- an opening: the gap part comes first, and both tests read what it leaves
+        unfoldable pub opens : ℕ → Data → Opened Failure Data
         opens r (held a v) = openBy r a (gapOf (a .dual) (gapStore v)) (dualOf (a .dual) (gapStore v)) (gapStore v)

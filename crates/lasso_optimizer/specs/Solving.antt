@@ -33,6 +33,7 @@ module _ (sh : Sizes) where
   gdxOf v = dotOf (2 * sh .p) (v GRAD) (v DXU)
 
   module _ (tm : Terms) where
+    -- phi at the current weights and bounds
     unfoldable pub phiAt : Float → Store → Float
     phiAt t v = phiOf (tm .lambda) t (dotOf (sh .k) (v Z) (v Z)) (sumOf (sh .p) (v U)) (sumlognegOf (2 * sh .p) (v F))
 

@@ -39,6 +39,7 @@ module _ (sh : Sizes) where
       ⟨ NEWF ≔ (λ u. facesOf (sh .p) (u NEWW) (u NEWU)) ⟩
 
   module _ (tm : Terms) where
+    -- phi at the new weights and bounds
     unfoldable pub newphiOf : Float → Store → Float
     newphiOf t v = phiOf (tm .lambda) t (dotOf (sh .k) (v NEWZ) (v NEWZ)) (sumOf (sh .p) (v NEWU)) (sumlognegOf (2 * sh .p) (v NEWF))
 
@@ -50,8 +51,10 @@ module _ (sh : Sizes) where
           ⟨ NEWZ ≔ (λ u. matvecOf sh tm m u (u NEWW)) ⟩
           ⟨ NEWZ ≔ (λ u. zipOf (λ (a b : Float). a ⊖ b) (sh .k) (u NEWZ) (u Y)) ⟩
 
+      -- only a point inside its bounds is weighed; for any other the step is halved at once
       unfoldable pub tryBy : Scalars → Float → Store → Tried Data
       tryBy a largest v = cond (lt largest plus0) (decideBy a (newphiOf (a .t) (newzStore v)) (newzStore v)) (halve (held (halved a) v))
 
+      -- a trial with the step that the scalars have
       unfoldable pub tries : Data → Tried Data
       tries (held a v) = tryBy a (largestOf (2 * sh .p) (movedStore (a .s) v NEWF)) (movedStore (a .s) v)

@@ -1,4 +1,6 @@
-// What an optimiser's round hands on, and how its parts answer. The parts themselves are defined in specs/, with the nested loops over them; the code for each has a crate of its own.
+// What a round of the optimiser leaves to the next, and how its parts answer. The parts are defined in specs/, with the nested loops over them; the code of
+// each has a crate of its own.
+use refusal::Failure;
 
 // The scalars between steps.
 pub struct Scalars {
@@ -18,11 +20,11 @@ pub struct Scalars {
     pub missed: bool,
 }
 
-// An opening: the solver is ready; the fit has converged; the solver's tolerance is at or below 0.
+// An opening: the solver is ready; the fit has converged; it fails.
 pub enum Opened {
     Ready(Scalars),
     Done,
-    Tiny,
+    Failed(Failure),
 }
 
 // A solver round: it goes on; it stops.

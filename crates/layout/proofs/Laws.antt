@@ -8,8 +8,9 @@ use lib.Dec.{lit≤}
 use Rattle.settings.specs.declared.Settings.{Settings}
 use Rattle.settings.specs.Settings.{Panels}
 use Rattle.layout.specs.declared.Sizes.{Sizes}
-use Rattle.layout.specs.Store.{within, apart}
-use Rattle.layout.specs.Slots.{Slot, num, size, off, table, words, need-is}
+use Rattle.layout.proofs.Store.{within, apart}
+use Rattle.layout.specs.Slots.{Slot, num, size, off, words}
+use Rattle.layout.proofs.Slots.{table, need-is}
 use Rattle.layout.specs.Need.{sizesOf, needOf, Small}
 
 -- ---- every slot lies within the needed words, and no two have a word in common

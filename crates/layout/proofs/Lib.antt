@@ -1,2 +1,4 @@
+pub mod Store
+pub mod Slots
 pub mod Laws
 mod Corners

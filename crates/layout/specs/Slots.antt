@@ -1,22 +1,20 @@
--- The vectors of a fit, and where they lie in the lent scratch. Definitions, and the laws once for all slots.
-use mathlib.Core.Path.{_≡_, refl, sym, ap, _∙_, subst}
+-- The vectors of a fit, where they lie in the lent scratch, and what it means that memory holds them. Definitions only.
+use mathlib.Core.Path.{_≡_}
 use mathlib.Core.List.{List, [], _∷_, _++_}
-use Prim.Native.Nat.{ℕ, _+_, _*_, _≤_, _<_}
-use native.Mathlib.Omega.{arith}
-use lib.Dec.{lit<}
-use lib.ListN.{length, getD, drop}
+use Prim.Native.Nat.{ℕ, _+_, _*_, _≤_}
+use lib.ListN.{length, drop}
 use lib.Ieee.{Float}
-use Rattle.arrays.specs.Part.{part, put}
+use Rattle.arrays.specs.Part.{part}
 use Rattle.arrays.specs.Vectors.{fillOf}
 use Rattle.layout.specs.declared.Sizes.{Sizes}
 use Rattle.layout.specs.declared.Places.{Places}
-use Rattle.layout.specs.Store.{Table, Tiled, tiled-join, total, upd, upd-same, upd-other, cut, need, save, sized-upd}
-use Rattle.layout.specs.Store.{Holds, held, wrote, cut-holds, rest-holds, cleared}
+use Rattle.layout.specs.Store.{upd, flat}
 
 -- docs/LAYOUT.md says what each holds at each stage. ZS is the solver's z, and Z the residuals.
 pub data Slot : Type 0 where
   W U NEWW NEWU F NEWF Q1 Q2 D1 D2 PRB PRS DXU GRAD R RR ZS ZZ PS PP XNU ATAX CENTRE SCALE RECIP SPARE LEFT RIGHT SUMS GRAM Y Z NU NEWZ DESIGN : Slot
 
+-- by which the slots are told apart
 abbrev pub num : Slot → ℕ
 num W = 0
 num U = 1
@@ -54,6 +52,7 @@ num NU = 32
 num NEWZ = 33
 num DESIGN = 34
 
+-- how many words each has, and where it begins
 abbrev pub size : Sizes → Slot → ℕ
 size sh W = sh .p
 size sh U = sh .p
@@ -128,188 +127,49 @@ off sh NU = 40 * sh .p + 2 * (sh .pr * sh .pc) + sh .pc * sh .pc + sh .p * sh .p
 off sh NEWZ = 40 * sh .p + 2 * (sh .pr * sh .pc) + sh .pc * sh .pc + sh .p * sh .p + 3 * sh .k
 off sh DESIGN = 40 * sh .p + 2 * (sh .pr * sh .pc) + sh .pc * sh .pc + sh .p * sh .p + 4 * sh .k
 
--- in two lists, each short enough for omega
-abbrev early : List Slot
-early = W ∷ U ∷ NEWW ∷ NEWU ∷ F ∷ NEWF ∷ Q1 ∷ Q2 ∷ D1 ∷ D2 ∷ PRB ∷ PRS ∷ DXU ∷ GRAD ∷ R ∷ RR ∷ ZS ∷ ZZ ∷ []
-
-abbrev late : List Slot
-late = PS ∷ PP ∷ XNU ∷ ATAX ∷ CENTRE ∷ SCALE ∷ RECIP ∷ SPARE ∷ LEFT ∷ RIGHT ∷ SUMS ∷ GRAM ∷ Y ∷ Z ∷ NU ∷ NEWZ ∷ DESIGN ∷ []
-
+-- in the order in which they lie
 abbrev pub names : List Slot
-names = early ++ late
-
-pub slot-of : (s : Slot) → getD names (num s) W ≡ s
-slot-of W = refl
-slot-of U = refl
-slot-of NEWW = refl
-slot-of NEWU = refl
-slot-of F = refl
-slot-of NEWF = refl
-slot-of Q1 = refl
-slot-of Q2 = refl
-slot-of D1 = refl
-slot-of D2 = refl
-slot-of PRB = refl
-slot-of PRS = refl
-slot-of DXU = refl
-slot-of GRAD = refl
-slot-of R = refl
-slot-of RR = refl
-slot-of ZS = refl
-slot-of ZZ = refl
-slot-of PS = refl
-slot-of PP = refl
-slot-of XNU = refl
-slot-of ATAX = refl
-slot-of CENTRE = refl
-slot-of SCALE = refl
-slot-of RECIP = refl
-slot-of SPARE = refl
-slot-of LEFT = refl
-slot-of RIGHT = refl
-slot-of SUMS = refl
-slot-of GRAM = refl
-slot-of Y = refl
-slot-of Z = refl
-slot-of NU = refl
-slot-of NEWZ = refl
-slot-of DESIGN = refl
-
-pub listed : (s : Slot) → num s < 35
-listed W = lit< tt
-listed U = lit< tt
-listed NEWW = lit< tt
-listed NEWU = lit< tt
-listed F = lit< tt
-listed NEWF = lit< tt
-listed Q1 = lit< tt
-listed Q2 = lit< tt
-listed D1 = lit< tt
-listed D2 = lit< tt
-listed PRB = lit< tt
-listed PRS = lit< tt
-listed DXU = lit< tt
-listed GRAD = lit< tt
-listed R = lit< tt
-listed RR = lit< tt
-listed ZS = lit< tt
-listed ZZ = lit< tt
-listed PS = lit< tt
-listed PP = lit< tt
-listed XNU = lit< tt
-listed ATAX = lit< tt
-listed CENTRE = lit< tt
-listed SCALE = lit< tt
-listed RECIP = lit< tt
-listed SPARE = lit< tt
-listed LEFT = lit< tt
-listed RIGHT = lit< tt
-listed SUMS = lit< tt
-listed GRAM = lit< tt
-listed Y = lit< tt
-listed Z = lit< tt
-listed NU = lit< tt
-listed NEWZ = lit< tt
-listed DESIGN = lit< tt
-
-pub tiled : (sh : Sizes) → Tiled num (size sh) (off sh) names 0 0
-unfolding total
-tiled sh = tiled-join num (size sh) (off sh) early late 0 0 (omega arith) (omega arith)
-
-abbrev pub table : Sizes → Table Slot
-table sh = record {
-  num = num;
-  size = size sh;
-  off = off sh;
-  names = names;
-  tiled = tiled sh;
-  all = listed;
-  inj = λ s t q. sym (slot-of s) ∙ ap (λ (i : ℕ). getD names i W) q ∙ slot-of t;
-}
-
-abbrev pub Store : Type 0
-Store = Slot → List Float
-
-infixl 40 _⟨_≔_⟩
-unfoldable pub _⟨_≔_⟩ : Store → Slot → (Store → List Float) → Store
-v ⟨ w ≔ f ⟩ = upd num v w (f v)
-
-pub seen-same : (v : Store) (w : Slot) (f : Store → List Float) → (v ⟨ w ≔ f ⟩) w ≡ f v
-unfolding _⟨_≔_⟩
-seen-same v w f = upd-same num v w (f v)
-
-pub seen-other : (v : Store) (w : Slot) (f : Store → List Float) (s : Slot) → (num s ≡ num w → ⊥) → (v ⟨ w ≔ f ⟩) s ≡ v s
-unfolding _⟨_≔_⟩
-seen-other v w f s h = upd-other num v w (f v) s h
-
-pub upd-sized : (sh : Sizes) (v : Store) (w : Slot) (f : Store → List Float) → ((s : Slot) → length (v s) ≡ size sh s) → length (f v) ≡ size sh w
-    → (s : Slot) → length ((v ⟨ w ≔ f ⟩) s) ≡ size sh s
-unfolding _⟨_≔_⟩
-upd-sized sh v w f z l s = sized-upd (table sh) v z w (f v) l s
+names =
+    W ∷ U ∷ NEWW ∷ NEWU ∷ F ∷ NEWF ∷ Q1 ∷ Q2 ∷ D1 ∷ D2 ∷ PRB ∷ PRS ∷ DXU ∷ GRAD ∷ R ∷ RR ∷ ZS ∷ ZZ ∷ PS ∷ PP ∷ XNU ∷ ATAX ∷ CENTRE ∷ SCALE ∷ RECIP ∷ SPARE
+    ∷ LEFT ∷ RIGHT ∷ SUMS ∷ GRAM ∷ Y ∷ Z ∷ NU ∷ NEWZ ∷ DESIGN ∷ []
 
 -- the words that a fit of these sizes needs
 unfoldable pub words : Sizes → ℕ
 words sh = 40 * sh .p + 2 * (sh .pr * sh .pc) + sh .pc * sh .pc + sh .p * sh .p + 4 * sh .k + sh .rows * sh .p
 
--- memory that holds the vectors v, and e after them; and what memory holds
+abbrev pub Store : Type 0
+Store = Slot → List Float
+
+-- v with what f makes of it under the name w
+infixl 40 _⟨_≔_⟩
+unfoldable pub _⟨_≔_⟩ : Store → Slot → (Store → List Float) → Store
+v ⟨ w ≔ f ⟩ = upd num v w (f v)
+
+-- the vectors v one after the other, and e after them; no size occurs in it, since each vector has its own length
 unfoldable pub flatly : Sizes → Store → List Float → List Float
-flatly sh v e = save (table sh) v e
+flatly sh v e = flat names v ++ e
 
-abbrev pub Has : Sizes → List Float → Store → List Float → Type 0
-Has sh e v m = Holds (table sh) e v m
+-- memory that holds the vectors v, each of its size, and e after them
+pub record Has (sh : Sizes) (e : List Float) (v : Store) (m : List Float) : Type 0 where
+  pub is : m ≡ flatly sh v e
+  pub sized : (s : Slot) → length (v s) ≡ size sh s
 
+-- what memory holds at the slots' places, and after the needed words
 abbrev pub vars : Sizes → List Float → Store
 vars sh m = λ s. part m (off sh s) (size sh s)
 
 abbrev pub rest : Sizes → List Float → List Float
-rest sh m = drop (need (table sh)) m
+rest sh m = drop (words sh) m
 
-pub need-is : (sh : Sizes) → need (table sh) ≡ words sh
-unfolding need total words
-need-is sh = omega arith
-
-pub start : (sh : Sizes) (m : List Float) → words sh ≤ length m → Has sh (rest sh m) (vars sh m) m
-unfolding cut
-start sh m h = held (table sh) m (rw need-is h)
-
--- a write to w of what f makes of the vectors in memory
-pub then : (sh : Sizes) {e : List Float} {v : Store} {m : List Float} → Has sh e v m → (w : Slot) (f : Store → List Float) → length (f v) ≡ size sh w
-    → {m′ : List Float} → m′ ≡ put m (off sh w) (f (vars sh m)) → Has sh e (v ⟨ w ≔ f ⟩) m′
-unfolding _⟨_≔_⟩ cut
-then sh {v} {m} h w f l {m′} q = wrote h w (f v) l m′ (q ∙ ap (λ (u : Store). put m (off sh w) (f u)) (cut-holds h))
-
--- what is read of the vectors in memory
-pub got : {X : Type 0} (sh : Sizes) {e : List Float} {v : Store} {m : List Float} → Has sh e v m → (f : Store → X) → f (vars sh m) ≡ f v
-unfolding cut
-got sh h f = ap f (cut-holds h)
-
--- a call whose contract speaks of the vectors in the memory that it was given
-pub next : (sh : Sizes) {e : List Float} {v : Store} {m : List Float} → Has sh e v m → (g : Store → Store)
-    → {m′ : List Float} → Has sh (rest sh m) (g (vars sh m)) m′ → Has sh e (g v) m′
-unfolding cut
-next sh {e} {v} {m} h g {m′} k =
-    let k2 : Has sh (rest sh m) (g v) m′ = subst (λ (u : Store). Has sh (rest sh m) (g u) m′) (cut-holds h) k in
-    subst (λ (r : List Float). Has sh r (g v) m′) (rest-holds h) k2
-
-pub vars-of : (sh : Sizes) {e : List Float} {v : Store} {m : List Float} → Has sh e v m → vars sh m ≡ v
-unfolding cut
-vars-of sh h = cut-holds h
-
-pub rest-of : (sh : Sizes) {e : List Float} {v : Store} {m : List Float} → Has sh e v m → rest sh m ≡ e
-rest-of sh h = rest-holds h
-
-pub flat-of : (sh : Sizes) {e : List Float} {v : Store} {m : List Float} → Has sh e v m → m ≡ flatly sh v e
-unfolding flatly
-flat-of sh h = h .is
+-- after m, memory m′ holds what f makes of the vectors that m held, and the same excess
+abbrev pub Makes : Sizes → (Store → Store) → List Float → List Float → Type 0
+Makes sh f m m′ = Has sh (rest sh m) (f (vars sh m)) m′
 
 -- the needed words overwritten by x
 abbrev pub all-of : Sizes → Float → Store
 all-of sh x = λ s. fillOf x (size sh s)
 
-pub cleared-of : (sh : Sizes) {e : List Float} {v : Store} {m : List Float} → Has sh e v m → (x : Float) (m′ : List Float)
-    → m′ ≡ put m 0 (fillOf x (words sh)) → Has sh e (all-of sh x) m′
-cleared-of sh {m} h x m′ q = cleared h x m′ (q ∙ ap (λ (k : ℕ). put m 0 (fillOf x k)) (sym (need-is sh)))
-
+-- the places that the code computes are the slots'
 pub record Laid (sh : Sizes) (l : Places) : Type 0 where
   pub at-w : l .w ≡ off sh W
   pub at-u : l .u ≡ off sh U

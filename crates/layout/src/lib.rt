@@ -15,6 +15,7 @@ pub struct Sizes {
     pub pc: usize,
 }
 
+// Where each vector begins in the scratch.
 pub struct Places {
     pub w: usize,
     pub u: usize,
@@ -53,8 +54,10 @@ pub struct Places {
     pub design: usize,
 }
 
+// The sizes of a fit, by mode: a lazy one stores no design and has panels, any other stores one and has none.
 pub fn sizes_of(n: usize, p: usize, st: Settings) -> Sizes
-    requires { ⌜ (n ≤ 4096) × (p ≤ 64) ⌝ }
+    requires { ⌜ n ≤ 4096 ⌝ }
+    requires { ⌜ p ≤ 64 ⌝ }
     ensures { λ r. ⌜ r ≡ sizesOf n p st ⌝ }
 {
     let k = n + p;
@@ -87,6 +90,7 @@ pub fn need(sh: Sizes) -> usize
     40 * p + 2 * (sh.pr * sh.pc) + sh.pc * sh.pc + p * p + 4 * sh.k + sh.rows * p
 }
 
+// The vectors one behind another, without gaps, in the order of `Places`. Panels and stored design have no words in a mode without them.
 pub fn place(sh: Sizes) -> Places
     requires { ⌜ Small sh ⌝ }
     ensures { λ r. ⌜ Laid sh r ⌝ }

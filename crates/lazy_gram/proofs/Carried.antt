@@ -3,7 +3,8 @@ use mathlib.Core.Path.{_≡_}
 use mathlib.Core.List.{List}
 use Prim.Native.Nat.{ℕ, _+_, _*_, _<_}
 use lib.Ieee.{Float, binary64}
-use Rattle.arrays.specs.Sums.{_!_, fold-ext}
+use Rattle.arrays.specs.Sums.{_!_}
+use Rattle.arrays.proofs.Folds.{fold-ext}
 use Rattle.arrays.proofs.Commute.{times-comm}
 use Rattle.gram_panels.specs.Panels.{cell, carry}
 use Rattle.gram_panels.proofs.Sums.{fold-on}

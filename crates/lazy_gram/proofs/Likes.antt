@@ -9,7 +9,8 @@ use native.Mathlib.Omega.{arith}
 use lib.ListN.{length}
 use lib.Seq.{ext-getD}
 use lib.Ieee.{Float, nan}
-use Rattle.arrays.specs.Part.{put, tab, length-put, length-tab, part-put-same, getD-part, getD-put-above, getD-put-below}
+use Rattle.arrays.specs.Part.{put, tab}
+use Rattle.arrays.proofs.Part.{length-put, length-tab, part-put-same, getD-part, getD-put-above, getD-put-below}
 use Rattle.arrays.specs.Sums.{_!_}
 use Rattle.gram_panels.specs.Panels.{mat}
 use Rattle.gram_panels.proofs.Mats.{length-mat, mat-below, mat-beyond}

@@ -7,7 +7,8 @@ use native.Mathlib.Numerals.{add-one}
 use native.Mathlib.Omega.{arith}
 use lib.ListN.{length}
 use lib.Ieee.{Float}
-use Rattle.arrays.specs.Sums.{_!_, fold-none}
+use Rattle.arrays.specs.Sums.{_!_}
+use Rattle.arrays.proofs.Folds.{fold-none}
 use Rattle.gram_panels.specs.Panels.{mat, least, same, wid, cell, panelAt, carry, Block}
 use Rattle.gram_panels.proofs.Mats.{row-le, ends, length-mat, mat-below, mat-beyond, mat-in, mat-gap, mat-self, mat-ext, mat-none}
 use Rattle.gram_panels.proofs.Mats.{mat-mat, mat-append, mat-wide, striped-none}

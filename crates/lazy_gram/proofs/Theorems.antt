@@ -8,10 +8,11 @@ use lib.Ieee.{Float, nan}
 use Rattle.numbers.specs.Ops.{_⊗_}
 use Rattle.arrays.specs.Sums.{_!_, plus0}
 use Rattle.arrays.specs.Vectors.{fillOf}
-use Rattle.matrices.specs.Grid.{getD-grid}
+use Rattle.matrices.proofs.Grid.{getD-grid}
 use Rattle.settings.specs.declared.Terms.{Terms}
 use Rattle.layout.specs.declared.Sizes.{Sizes}
-use Rattle.layout.specs.Slots.{Slot, Store, _⟨_≔_⟩, num, seen-same, seen-other}
+use Rattle.layout.specs.Slots.{Slot, Store, _⟨_≔_⟩, num}
+use Rattle.layout.proofs.Slots.{seen-same, seen-other}
 use Rattle.layout.specs.Slots.{Slot.CENTRE, Slot.SCALE, Slot.LEFT, Slot.RIGHT, Slot.GRAM}
 use Rattle.lazy_gram.specs.Gram.{cellAt, entryOf, augmented, lazyGramOf, lazyGramStore}
 use Rattle.lazy_gram.specs.Nest.{entry}

@@ -10,14 +10,18 @@ use lib.Dec.{eqb}
 use lib.ListN.{length}
 use lib.Ieee.{Float, nan}
 use Rattle.numbers.specs.Ops.{_⊗_}
-use Rattle.arrays.specs.Part.{put-append, part, put, tab, length-put, getD-part, part-put-above, put-comm, put-none}
+use Rattle.arrays.specs.Part.{part, put, tab}
+use Rattle.arrays.proofs.Part.{put-append, length-put, getD-part, part-put-above, put-comm, put-none}
 use Rattle.arrays.specs.Sums.{_!_, plus0}
-use Rattle.arrays.specs.Vectors.{fillOf, length-fill}
-use Rattle.matrices.specs.Grid.{grid, length-grid}
+use Rattle.arrays.specs.Vectors.{fillOf}
+use Rattle.arrays.proofs.Lengths.{length-fill}
+use Rattle.matrices.specs.Grid.{grid}
+use Rattle.matrices.proofs.Grid.{length-grid}
 use Rattle.settings.specs.declared.Terms.{Terms}
 use Rattle.layout.specs.declared.Sizes.{Sizes}
 use Rattle.layout.specs.declared.Places.{Places}
-use Rattle.layout.specs.Slots.{Slot.CENTRE, Slot.SCALE, Slot.LEFT, Slot.RIGHT, Slot.GRAM, off, words, Has, vars, rest, start, then}
+use Rattle.layout.specs.Slots.{Slot.CENTRE, Slot.SCALE, Slot.LEFT, Slot.RIGHT, Slot.GRAM, off, words, Has, vars, rest}
+use Rattle.layout.proofs.Slots.{start, then}
 use Rattle.gram_panels.specs.Panels.{mat, same, cell}
 use Rattle.gram_panels.proofs.Mats.{row-le, put-tab-tab, length-mat, mat-below, mat-in, mat-ext, mat-mat, mat-put}
 use Rattle.lazy_gram.specs.Gram.{cellAt, entryOf, lazyGramOf, lazyGramStore, Lent}

@@ -27,6 +27,7 @@ entryOf n p m ce sc j k = products plus0 (λ i. cellAt p m ce sc i j) (λ i. cel
 abbrev pub augmented : Terms → Bool → Float → Float
 augmented t diagonal x = cond diagonal (x ⊗ (t .gamma ⊗ t .gamma) ⊕ t .padding ⊗ t .padding) (x ⊗ (t .gamma ⊗ t .gamma))
 
+-- the whole Gram; R and C do not occur in it
 unfoldable pub lazyGramOf : ℕ → ℕ → Terms → List Float → List Float → List Float → List Float
 lazyGramOf n p t m ce sc = grid (λ j k. augmented t (eqb j k) (entryOf n p m ce sc j k)) p p
 

@@ -1,4 +1,5 @@
--- What the loops over pairs of panels make of the scratch, from the innermost outwards, then the augmentation and the mirror, and what each asks. Definitions only.
+-- Inner definitions: no promise names them.
+-- What the loops over pairs of panels make of the scratch, from the innermost outwards, then the augmentation and the mirror, and what each asks.
 use mathlib.Core.Path.{_≡_}
 use mathlib.Core.Bool.{Bool, cond}
 use mathlib.Core.List.{List}
@@ -65,12 +66,14 @@ pub record Lie (m : List Float) (p row nr : ℕ) (s : List Float) (ce sc le ri c
   pub gram : ga + p * p ≤ length s
   pub fits : p + cc ≤ length s
 
+-- the same, and the left panel holds nj columns from jb * cc
 pub record Pairs (m : List Float) (p row nr : ℕ) (s : List Float) (ce sc le ri cc ga jb nj : ℕ) : Type 0 where
   pub lie : Lie m p row nr s ce sc le ri cc ga
   pub cols : jb * cc + nj ≤ p
   pub width : nj ≤ cc
   pub held : (i a : ℕ) → i < nr → a < nj → s ! (le + i * cc + a) ≡ cell m p s ce sc (row + i) (jb * cc + a)
 
+-- the same, and block jb begins within the matrix
 pub record Column (m : List Float) (p row nr : ℕ) (s : List Float) (ce sc le ri cc ga jb : ℕ) : Type 0 where
   pub lie : Lie m p row nr s ce sc le ri cc ga
   pub inside : jb * cc < p
@@ -108,12 +111,15 @@ raisedAt s at gg pp j k = raised gg pp (eqb j k) (s ! (at + k))
 abbrev pub across : List Float → ℕ → ℕ → ℕ → Float
 across s from p b = s ! (from + b * p)
 
+-- how many elements of row k stand right of the diagonal
 abbrev pub right-of : ℕ → ℕ → ℕ
 right-of p k = p - (k + 1)
 
+-- those elements, each from its place below the diagonal
 abbrev pub turned : List Float → ℕ → ℕ → ℕ → ℕ → Float
 turned s ga p k = across s (ga + p + k * (p + 1)) p
 
+-- the row lies before the column
 pub record MirrorRow (s : List Float) (to from p n : ℕ) : Type 0 where
   pub some : 1 ≤ p
   pub apart : to + n ≤ from
@@ -121,5 +127,6 @@ pub record MirrorRow (s : List Float) (to from p n : ℕ) : Type 0 where
 
 -- ---- the whole
 
+-- what all of it makes: the Gram of Gram.antt, with centres and scales read from s
 unfoldable pub gramAt : ℕ → ℕ → Float → Float → List Float → List Float → ℕ → ℕ → List Float
 gramAt n p gg pp m s ce sc = grid (λ j k. raised gg pp (eqb j k) (entryOf n p m (part s ce p) (part s sc p) j k)) p p

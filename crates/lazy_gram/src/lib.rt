@@ -12,13 +12,13 @@ ghost use mathlib.Core.Path.{_≡_};
 ghost use Prim.Native.Nat.{_+_, _-_, _*_, _≤_, _<_};
 ghost use lib.ListN.{length};
 ghost use Rattle.arrays.specs.Part.{put, tab};
-ghost use Rattle.layout.specs.Slots.{Has, vars, rest};
+ghost use Rattle.layout.specs.Slots.{Makes};
 ghost use Rattle.gram_panels.specs.Panels.{mat, same, least, cell};
 ghost use Rattle.lazy_gram.specs.Gram.{lazyGramStore, Lent};
 ghost use Rattle.lazy_gram.specs.Nest.{Like, entry, advanced, Pairs, tri, low, advancedLow, Lie, Column, Rows, Clear, nones};
 ghost use Rattle.lazy_gram.specs.Nest.{raisedAt, across, right-of, turned, MirrorRow, gramAt};
 
-// The rows from `row`: their products of the columns from jb * cc, which the left panel holds, and each column before these.
+// For nr rows from `row`: adds the products of the nj columns from jb * cc, which the left panel holds, with each column before them.
 fn pairs(
     m: &[f64],
     p: usize,
@@ -48,7 +48,7 @@ fn pairs(
     }
 }
 
-// The rows from `row`: their products of the columns from jb * cc, and each column up to it.
+// For nr rows from `row`: adds the products of the columns from jb * cc, cc at most, with each column up to them.
 fn column(
     m: &[f64],
     p: usize,
@@ -64,7 +64,8 @@ fn column(
     jb: usize,
 )
     requires { ⌜ Column (now m) p row nr (now s) ce sc le ri cc ga jb ⌝ }
-    ensures { λ _. ⌜ Like le (ri + nr * cc) (now (s .exit)) (advanced (now (m .entry)) p row nr (now (s .entry)) ce sc ga (jb * cc) (tri (jb * cc)) (least (p - jb * cc) cc)) ⌝ }
+    ensures { λ _. ⌜ Like le (ri + nr * cc) (now (s .exit)) (advanced (now (m .entry)) p row nr (now (s .entry)) ce sc ga (jb * cc) (tri (jb * cc))
+        (least (p - jb * cc) cc)) ⌝ }
 {
     let j = jb * cc;
     let nj = least_of(p - j, cc);
@@ -73,7 +74,7 @@ fn column(
     block(s, ga + j * p + j, p, nj, nj, 0, le, le, cc, nr);
 }
 
-// The rows from `row`: their products of all columns.
+// For nr rows from `row`: adds the products of all pairs of columns.
 fn row_block(
     m: &[f64],
     p: usize,
@@ -99,7 +100,7 @@ fn row_block(
     }
 }
 
-// The products of all rows, in blocks of rr.
+// Adds the products of all n rows, in blocks of rr.
 fn rows(
     m: &[f64],
     n: usize,
@@ -113,7 +114,8 @@ fn rows(
     cc: usize,
     ga: usize,
 )
-    requires { ⌜ (Rows (now m) n p rr (now s) ce sc le ri cc ga) × (Clear (now s) p ga) ⌝ }
+    requires { ⌜ Rows (now m) n p rr (now s) ce sc le ri cc ga ⌝ }
+    requires { ⌜ Clear (now s) p ga ⌝ }
     ensures { λ _. ⌜ Like le (ri + rr * cc) (now (s .exit)) (mat (now (s .entry)) ga p low (entry (cell (now (m .entry)) p (now (s .entry)) ce sc) n) p) ⌝ }
 {
     let mut row = 0usize;
@@ -156,6 +158,7 @@ fn augment(s: &mut [f64], ga: usize, p: usize, gg: f64, pp: f64)
     }
 }
 
+// n elements of a column, which begins at `from`, into the row at `to`.
 fn mirror_row(s: &mut [f64], to: usize, from: usize, p: usize, n: usize)
     requires { ⌜ MirrorRow (now s) to from p n ⌝ }
     ensures { λ _. ⌜ now (s .exit) ≡ put (now (s .entry)) to (tab (across (now (s .entry)) from p) n) ⌝ }
@@ -180,7 +183,7 @@ fn mirror(s: &mut [f64], ga: usize, p: usize)
     }
 }
 
-// All but the clearing of the panels.
+// The whole Gram; the panels keep what was last in them.
 fn fill_gram(
     m: &[f64],
     n: usize,
@@ -206,9 +209,11 @@ fn fill_gram(
     sweep(s, ga, p * p);
 }
 
+// Writes the Gram of the design that is not stored: by panels that of the normalised matrix, then times gamma squared, with padding squared added to the
+// diagonal. The panels are +0 afterwards.
 pub fn gram(m: &[f64], sh: Sizes, t: Terms, s: &mut [f64], l: Places)
     requires { ⌜ Lent sh l (now m) (now s) ⌝ }
-    ensures { λ _. ⌜ Has sh (rest sh (now (s .entry))) (lazyGramStore sh t (now (m .entry)) (vars sh (now (s .entry)))) (now (s .exit)) ⌝ }
+    ensures { λ _. ⌜ Makes sh (lazyGramStore sh t (now (m .entry))) (now (s .entry)) (now (s .exit)) ⌝ }
 {
     let le = l.left;
     let gg = t.gamma * t.gamma;

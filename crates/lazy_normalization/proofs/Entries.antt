@@ -6,8 +6,10 @@ use native.Mathlib.Omega.{arith}
 use lib.ListN.{set}
 use lib.Ieee.{Float, nan}
 use Rattle.numbers.specs.Ops.{_⊕_, _⊗_}
-use Rattle.arrays.specs.Part.{part, getD-part}
-use Rattle.arrays.specs.Sums.{_!_, products, plus0, fold-turn}
+use Rattle.arrays.specs.Part.{part}
+use Rattle.arrays.proofs.Part.{getD-part}
+use Rattle.arrays.specs.Sums.{_!_, products, plus0}
+use Rattle.arrays.proofs.Folds.{fold-turn}
 use Rattle.arrays.specs.Vectors.{Clear}
 use Rattle.arrays.proofs.Turns.{Made, made-more, kept}
 use Rattle.lazy_normalization.specs.Lazy.{normalised, lazyAt}

@@ -7,8 +7,10 @@ use native.Mathlib.Omega.{arith}
 use lib.ListN.{length, set}
 use lib.Ieee.{Float, nan}
 use Rattle.numbers.specs.Ops.{_⊕_, _⊗_}
-use Rattle.arrays.specs.Part.{part, put, put-append, tab, tab-ext, getD-tab, getD-part, length-tab, part-put-same}
-use Rattle.arrays.specs.Sums.{_!_, products, plus0, fold-none, fold-turn}
+use Rattle.arrays.specs.Part.{part, put, tab}
+use Rattle.arrays.proofs.Part.{put-append, tab-ext, getD-tab, getD-part, length-tab, part-put-same}
+use Rattle.arrays.specs.Sums.{_!_, products, plus0}
+use Rattle.arrays.proofs.Folds.{fold-none, fold-turn}
 use Rattle.arrays.specs.Vectors.{mapOf, zipOf, fillOf}
 use Rattle.arrays.proofs.Turns.{Made, made-of, made-more, made-all, made-again, part-kept}
 use Rattle.layout.specs.declared.Places.{Places}

@@ -70,6 +70,7 @@ pub record RowReads (m : List Float) (i at p : ℕ) (s : List Float) (l : Places
   pub reciprocals : l .recip + p ≤ length s
   pub vector : v + p ≤ length s
 
+-- the same row, and elsewhere p sums that it is added to
 pub record RowAdds (m : List Float) (i at p : ℕ) (s : List Float) (l : Places) (out : ℕ) : Type 0 where
   pub start : at ≡ i * p
   pub row : at + p ≤ length m

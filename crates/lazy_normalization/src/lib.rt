@@ -10,9 +10,10 @@ ghost use Rattle.numbers.specs.Ops.{_⊕_, _⊗_};
 ghost use Rattle.arrays.specs.Part.{part, put, tab};
 ghost use Rattle.arrays.specs.Vectors.{zipOf, Two};
 ghost use Rattle.arrays.specs.Sums.{products, plus0, _!_};
-ghost use Rattle.layout.specs.Slots.{Room, Has, vars, rest};
+ghost use Rattle.layout.specs.Slots.{Room, Makes};
 ghost use Rattle.lazy_normalization.specs.Lazy.{isNormal, reciprocalOf, normalised, lazyAt, lazyRows, lazyColumns, recipStore, Reads, RowReads, RowAdds};
 
+// Neither a zero nor subnormal, infinite or a NaN.
 pub fn is_normal(x: f64) -> bool
     ensures { λ r. ⌜ r ≡ isNormal x ⌝ }
 {
@@ -24,6 +25,7 @@ pub fn is_normal(x: f64) -> bool
     }
 }
 
+// 1 / scale, for a product in place of the division. +0 where scale or its reciprocal is not normal, which stands for: divide.
 pub fn reciprocal(scale: f64) -> f64
     ensures { λ r. ⌜ r ≡ reciprocalOf scale ⌝ }
 {
@@ -36,10 +38,10 @@ pub fn reciprocal(scale: f64) -> f64
     0.0
 }
 
-// All scales' reciprocals, for the products.
+// Every scale's reciprocal, once a fit, so that the products divide only where they must.
 pub fn reciprocals(s: &mut [f64], sh: Sizes, l: Places)
     requires { ⌜ Room sh l (now s) ⌝ }
-    ensures { λ _. ⌜ Has sh (rest sh (now (s .entry))) (recipStore sh (vars sh (now (s .entry)))) (now (s .exit)) ⌝ }
+    ensures { λ _. ⌜ Makes sh (recipStore sh) (now (s .entry)) (now (s .exit)) ⌝ }
 {
     let out = l.recip;
     let from = l.scale;
@@ -49,6 +51,7 @@ pub fn reciprocals(s: &mut [f64], sh: Sizes, l: Places)
     }
 }
 
+// (raw - centre) / scale, by the reciprocal where there is one.
 fn normalise(raw: f64, centre: f64, scale: f64, by: f64) -> f64
     ensures { λ r. ⌜ r ≡ normalised raw centre scale by ⌝ }
 {
@@ -58,7 +61,7 @@ fn normalise(raw: f64, centre: f64, scale: f64, by: f64) -> f64
     (raw - centre) * by
 }
 
-// matvec: the design times the vector at v.
+// The Rust's matvec: the design times the vector at v. The last p elements are those of the padding.
 pub fn rows(m: &[f64], n: usize, p: usize, t: Terms, s: &mut [f64], l: Places, v: usize, out: usize)
     requires { ⌜ Reads (now m) n p (now s) l v p out (n + p) ⌝ }
     ensures { λ _. ⌜ now (s .exit) ≡ put (now (s .entry)) out (lazyRows n p t (now (m .entry)) (part (now (s .entry)) (l .centre) p)
@@ -89,7 +92,7 @@ fn row_sum(m: &[f64], i: usize, at: usize, p: usize, s: &[f64], l: Places, v: us
     x
 }
 
-// transpose_matvec: the transposed design times the vector at v; each row is added to all sums at once.
+// The Rust's transpose_matvec: the transposed design times the vector at v. Each row is added to all sums at once.
 pub fn columns(
     m: &[f64],
     n: usize,
@@ -117,7 +120,8 @@ pub fn columns(
 // Row i, which starts at `at`, times x, added to the p sums at `out`.
 fn add_row(m: &[f64], i: usize, at: usize, p: usize, x: f64, s: &mut [f64], l: Places, out: usize)
     requires { ⌜ RowAdds (now m) i at p (now s) l out ⌝ }
-    ensures { λ _. ⌜ now (s .exit) ≡ put (now (s .entry)) out (tab (λ j. part (now (s .entry)) out p ! j ⊕ lazyAt p (now (m .entry)) (part (now (s .entry)) (l .centre) p)
+    ensures { λ _. ⌜ now (s .exit)
+        ≡ put (now (s .entry)) out (tab (λ j. part (now (s .entry)) out p ! j ⊕ lazyAt p (now (m .entry)) (part (now (s .entry)) (l .centre) p)
         (part (now (s .entry)) (l .scale) p) (part (now (s .entry)) (l .recip) p) i j ⊗ x) p) ⌝ }
 {
     let ce = l.centre;
@@ -132,7 +136,8 @@ fn add_row(m: &[f64], i: usize, at: usize, p: usize, x: f64, s: &mut [f64], l: P
 // gamma times each sum, plus padding times the tail.
 fn augment(s: &mut [f64], out: usize, t: Terms, tail: usize, p: usize)
     requires { ⌜ Two (now s) out out tail p ⌝ }
-    ensures { λ _. ⌜ now (s .exit) ≡ put (now (s .entry)) out (zipOf (λ (v w : Float). t .gamma ⊗ v ⊕ t .padding ⊗ w) p (part (now (s .entry)) out p) (part (now (s .entry)) tail p)) ⌝ }
+    ensures { λ _. ⌜ now (s .exit)
+        ≡ put (now (s .entry)) out (zipOf (λ (v w : Float). t .gamma ⊗ v ⊕ t .padding ⊗ w) p (part (now (s .entry)) out p) (part (now (s .entry)) tail p)) ⌝ }
 {
     for j in 0..p {
         s[out + j] = t.gamma * s[out + j] + t.padding * s[tail + j];

@@ -13,7 +13,8 @@ use Rattle.numbers.specs.Order.{maximumOf}
 use Rattle.logarithm.specs.Log.{lnOf}
 use Rattle.arrays.specs.Part.{tab}
 use Rattle.arrays.specs.Sums.{_!_, foldTo, sumOf}
-use Rattle.matrices.specs.Grid.{grid, grid-front, length-grid}
+use Rattle.matrices.specs.Grid.{grid}
+use Rattle.matrices.proofs.Grid.{grid-front, length-grid}
 use Rattle.line_search.specs.Search.{facesOf, facesList, largestOf, sumlognegOf}
 
 fold-front : (g : Float → Float → Float) (start : Float) (f : ℕ → Float) (n : ℕ)

@@ -5,9 +5,11 @@ use Prim.Native.Nat.{ℕ, _+_, _*_, _≤_, _<_}
 use native.Mathlib.Omega.{arith}
 use lib.ListN.{length, getD, set, length-set, length-append}
 use lib.Ieee.{Float, nan}
-use Rattle.arrays.specs.Part.{part, put, tab, put-snoc, put-none, part-put-apart, apart-of, apart-fewer, getD-part}
+use Rattle.arrays.specs.Part.{part, put, tab}
+use Rattle.arrays.proofs.Part.{put-snoc, put-none, part-put-apart, apart-of, apart-fewer, getD-part}
 use Rattle.arrays.specs.Sums.{_!_}
-use Rattle.matrices.specs.Grid.{grid, length-grid, grid-more}
+use Rattle.matrices.specs.Grid.{grid}
+use Rattle.matrices.proofs.Grid.{length-grid, grid-more}
 
 -- the first i of p rows from `out` are written, the next starts at `at`, and all else is as it was in s₀
 pub record Paired (s₀ : List Float) (out p : ℕ) (f : ℕ → ℕ → Float) (s : List Float) (at i : ℕ) : Type 0 where

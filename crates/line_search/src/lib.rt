@@ -7,7 +7,7 @@ ghost use lib.ListN.{length};
 ghost use Rattle.arrays.specs.Part.{part, put};
 ghost use Rattle.line_search.specs.Search.{facesOf, largestOf, sumlognegOf, phiOf, decreases, Faces};
 
-// f, a row of two elements to each weight and bound.
+// f: the pair w - u and -w - u for each weight w and its bound u. Both are below 0 just where the weight is inside its bound.
 pub fn faces(s: &mut [f64], out: usize, w: usize, u: usize, p: usize)
     requires { ⌜ Faces (now s) out w u p ⌝ }
     ensures { λ _. ⌜ now (s .exit) ≡ put (now (s .entry)) out (facesOf p (part (now (s .entry)) w p) (part (now (s .entry)) u p)) ⌝ }
@@ -22,7 +22,7 @@ pub fn faces(s: &mut [f64], out: usize, w: usize, u: usize, p: usize)
     }
 }
 
-// The largest of n elements; a NaN is passed over.
+// The largest of n elements. A NaN is passed over; where there is no number it is -infinity.
 pub fn largest(s: &[f64], a: usize, n: usize) -> f64
     requires { ⌜ a + n ≤ length (now s) ⌝ }
     ensures { λ r. ⌜ r ≡ largestOf n (part (now (s .entry)) a n) ⌝ }
@@ -34,7 +34,7 @@ pub fn largest(s: &[f64], a: usize, n: usize) -> f64
     t
 }
 
-// The sum of ln(-f), in index order from +0.
+// The sum of ln(-f), in index order from +0: a NaN where an element is above 0.
 pub fn sumlogneg(s: &[f64], a: usize, n: usize) -> f64
     requires { ⌜ a + n ≤ length (now s) ⌝ }
     ensures { λ r. ⌜ r ≡ sumlognegOf n (part (now (s .entry)) a n) ⌝ }
@@ -46,12 +46,14 @@ pub fn sumlogneg(s: &[f64], a: usize, n: usize) -> f64
     t
 }
 
+// The objective of the search, from its three sums.
 pub fn phi(lambda: f64, t: f64, zz: f64, sumu: f64, logs: f64) -> f64
     ensures { λ r. ⌜ r ≡ phiOf lambda t zz sumu logs ⌝ }
 {
     zz + lambda * sumu - logs / t
 }
 
+// Whether phi decreases enough for the step s; a NaN does not.
 pub fn accepts(newphi: f64, phi: f64, s: f64, gdx: f64) -> bool
     ensures { λ r. ⌜ r ≡ decreases newphi phi s gdx ⌝ }
 {

@@ -1,4 +1,4 @@
--- A difference of two counts as a whole number: its float, where it is zero, and that it depends on how far apart they are alone. Assumes nothing.
+-- A difference of two counts as a whole number: its float, where it is zero, and that it depends only on how far apart they are. Assumes nothing.
 use mathlib.Core.Path.{_≡_, refl, sym, ap, _∙_}
 use Prim.Native.Nat.{ℕ, zero, suc, _+_, _-_, _*_, _^_, _≤_, _<_}
 use native.Mathlib.Omega.{arith}

@@ -67,12 +67,14 @@ seriesOf s =
     let t2 = z ⊗ (lg1 ⊕ w ⊗ (lg3 ⊕ w ⊗ (lg5 ⊕ w ⊗ lg7))) in
     t2 ⊕ t1
 
+-- where i | j > 0
 unfoldable pub midOf : Float → ℤ → Float → Float → Float
 midOf f k s r =
     let dk = ofInt binary64 k in
     let hfsq = half ⊗ f ⊗ f in
     cond (isZero k) (f ⊖ (hfsq ⊖ s ⊗ (hfsq ⊕ r))) (dk ⊗ ln2hi ⊖ ((hfsq ⊖ (s ⊗ (hfsq ⊕ r) ⊕ dk ⊗ ln2lo)) ⊖ f))
 
+-- elsewhere
 unfoldable pub outOf : Float → ℤ → Float → Float → Float
 outOf f k s r =
     let dk = ofInt binary64 k in
@@ -94,6 +96,7 @@ normalLn scaled b =
     let f = f64 ((0x3ff - i) * 2 ^ 52 + b % 2 ^ 52) ⊖ one in
     cond (ltb ((hx + 2) % 2 ^ 20) 3) (closeOf f k) (farOf f k hx)
 
+-- the file's cases: a zero, a minus sign, a subnormal (times 2 ^ 54), +infinity and a NaN, and every other value
 unfoldable pub lnOf : Float → Float
 lnOf x =
     let b = toBits binary64 x in

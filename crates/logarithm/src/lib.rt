@@ -19,6 +19,7 @@ const LG: [f64; 9] = [
     1.479819860511658591e-01,
 ];
 
+// -infinity for both zeros, +infinity for +infinity, and a NaN for a NaN and for everything below 0.
 #[no_mangle]
 pub extern "C" fn ln(x: f64) -> f64
     ensures { λ r. ⌜ r ≡ lnOf x ⌝ }
@@ -44,7 +45,9 @@ pub extern "C" fn ln(x: f64) -> f64
 
 // The logarithm of (1 + low / 2^52) * 2^(power - 1075).
 fn normal_ln(power: u64, low: u64) -> f64
-    requires { ⌜ (1 ≤ power) × (power ≤ 2098) × (low < 0x10_0000_0000_0000) ⌝ }
+    requires { ⌜ 1 ≤ power ⌝ }
+    requires { ⌜ power ≤ 2098 ⌝ }
+    requires { ⌜ low < 0x10_0000_0000_0000 ⌝ }
     ensures { λ r. ⌜ r ≡ normalLn 54 ((power + 2) * 0x10_0000_0000_0000 + low) ⌝ }
 {
     let hx = low / 0x1_0000_0000;
@@ -69,6 +72,7 @@ fn exponent(c: u64) -> f64
     small(c - 1075)
 }
 
+// n as a float, exactly
 fn small(n: u64) -> f64
     requires { ⌜ n < 4096 ⌝ }
     ensures { λ r. ⌜ r ≡ ofInt binary64 (pos n) ⌝ }
@@ -95,6 +99,7 @@ fn close(f: f64, c: u64) -> f64
     dk * LG[0] - ((r - dk * LG[1]) - f)
 }
 
+// Every other f: mid where hx is from 0x6147a to 0x6b851, out on either side.
 fn far(f: f64, c: u64, hx: u64) -> f64
     requires { ⌜ c < 4096 ⌝ }
     ensures { λ r. ⌜ r ≡ farOf f (minus c 1075) hx ⌝ }

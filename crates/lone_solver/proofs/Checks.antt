@@ -17,16 +17,9 @@ use Rattle.refusal.specs.declared.Refusal.the-variants.{Size, Length, Setting, 
 use Rattle.refusal.specs.declared.Checked.{Checked}
 use Rattle.refusal.specs.declared.Checked.the-variants.{Fine, Bad}
 use Rattle.refusal.specs.Checks.{ask, askValues, foundAt}
-use Rattle.refusal.proofs.Scanning.{orElse, further, scan-append, scan-from, FirstBad, AllFinite, opposed, scan-first, scan-clean}
-use Rattle.refusal.proofs.Asking.{refuted, both-true, ask-fine}
+use Rattle.refusal.proofs.Scanning.{orElse, further, scan-append, scan-from, FirstBad, AllFinite, scan-first, scan-clean}
+use Rattle.refusal.proofs.Asking.{refuted, known-by, both-true, ask-fine}
 use Rattle.lone_solver.specs.Solve.{valued, checked}
-
--- ---- tests
-
--- a test that says the same as P
-pub tested : (t : Bool) {P : Type 0} → (t ≡ true → P) → (P → t ≡ true) → Dec P
-tested true h g = yes (h refl)
-tested false h g = no (λ p. opposed false refl (g p))
 
 -- ---- 1 to 4
 
@@ -81,13 +74,13 @@ module _ (tol : Float) (limit : ℕ) where
       record { rounds = leb-true limit 5000 (t .0); tolerance = t .1 }
 
 pub size-known : (n : ℕ) → Dec (InSize n)
-size-known n = tested (size-test n) (size-of n) (size-good n)
+size-known n = known-by (size-of n) (size-good n)
 
 pub lengths-known : (n : ℕ) (a b x : List Float) → Dec (Lengths n a b x)
-lengths-known n a b x = tested (length-test n a b x) (length-of n a b x) (length-good n a b x)
+lengths-known n a b x = known-by (length-of n a b x) (length-good n a b x)
 
 pub settings-known : (tol : Float) (limit : ℕ) → Dec (Settled tol limit)
-settings-known tol limit = tested (setting-test tol limit) (setting-of tol limit) (setting-good tol limit)
+settings-known tol limit = known-by (setting-of tol limit) (setting-good tol limit)
 
 module _ (n : ℕ) (a b x : List Float) (tol : Float) (limit room : ℕ) where
   pub bad-size : (InSize n → ⊥) → checked n a b x tol limit room ≡ Bad Size

@@ -11,7 +11,8 @@ use lib.ListN.{length, take, drop}
 use lib.Seq.{take-at, drop-at}
 use lib.Ieee.{Float, le}
 use Rattle.arrays.specs.Sums.{plus0}
-use Rattle.arrays.specs.Vectors.{fillOf, length-fill}
+use Rattle.arrays.specs.Vectors.{fillOf}
+use Rattle.arrays.proofs.Lengths.{length-fill}
 use Rattle.refusal.specs.declared.Refusal.{Refusal}
 use Rattle.refusal.specs.declared.Refusal.the-variants.{Size, Length, Setting, Scratch, NotFinite, Tolerance, NoRounds}
 use Rattle.refusal.specs.declared.Checked.{Checked}
@@ -19,7 +20,8 @@ use Rattle.refusal.specs.declared.Checked.the-variants.{Fine, Bad}
 use Rattle.refusal.proofs.Scanning.{FirstBad, AllFinite, scan-known}
 use Rattle.lone_solver.specs.declared.Answer.{Answer}
 use Rattle.lone_solver.specs.declared.Answer.the-variants.{Solved, Refused}
-use Rattle.lone_solver.specs.Solve.{Result, Result.found, Outcome, Outcome.outcome, byCheck, checked, finished, solved, solveOf, Said.refused, said}
+use Rattle.lone_rounds.specs.Loop.{Result, Result.found, solved}
+use Rattle.lone_solver.specs.Solve.{Outcome, Outcome.outcome, byCheck, checked, finished, solveOf, Said.refused, said}
 use Rattle.lone_solver.proofs.Checks.{InSize, Lengths, Settled, Passed, size-known, lengths-known, settings-known}
 use Rattle.lone_solver.proofs.Checks.{bad-size, bad-length, bad-setting, bad-scratch, good-sizes, bad-value, bad-tolerance, bad-rounds, good-values}
 

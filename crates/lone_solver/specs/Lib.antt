@@ -1,2 +1,1 @@
-pub mod Lone
 pub mod Solve

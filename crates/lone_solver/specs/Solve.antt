@@ -1,14 +1,12 @@
--- The lone solver: solve_mut's loop, the refusals in 01's order, and what the lent memory holds afterwards. Definitions only.
-use mathlib.Core.Path.{_≡_}
-use mathlib.Core.Bool.{true, false, not, _&&_}
+-- The lone solver: the refusals in 01's order, and what the lent memory holds after a call. Definitions only.
+use mathlib.Core.Bool.{not, _&&_}
 use mathlib.Core.List.{List, _++_}
-use Prim.Native.Nat.{ℕ, zero, suc, _+_, _-_, _*_, _≤_}
+use Prim.Native.Nat.{ℕ, _*_}
 use lib.Dec.{leb, eqb}
 use lib.ListN.{length, drop}
 use lib.Ieee.{Float, le}
 use lib.Ieee.Scale.{finite}
-use Rattle.arrays.specs.Sums.{plus0, normTwoOf}
-use Rattle.arrays.specs.Part.{part}
+use Rattle.arrays.specs.Sums.{plus0}
 use Rattle.arrays.specs.Vectors.{fillOf}
 use Rattle.arrays.specs.Scan.{firstInfinite}
 use Rattle.refusal.specs.declared.Refusal.the-variants.{Size, Length, Setting, Scratch, Tolerance, NoRounds}
@@ -16,36 +14,9 @@ use Rattle.refusal.specs.declared.Checked.{Checked}
 use Rattle.refusal.specs.declared.Checked.the-variants.{Fine, Bad}
 use Rattle.refusal.specs.Refusal.{numberOf, placeOf}
 use Rattle.refusal.specs.Checks.{ask, askValues}
+use Rattle.lone_rounds.specs.Loop.{Result, Result.found, solved}
 use Rattle.lone_solver.specs.declared.Answer.{Answer}
 use Rattle.lone_solver.specs.declared.Answer.the-variants.{Solved, Refused}
-use Rattle.bg_solver.specs.Solver.{System, Work, begun, turned, errorOf}
-use Rattle.lone_solver.specs.Lone.{loneSystem, diagonalOf, workIn, Loops}
-
--- ---- solve_mut's loop
-
--- the error and the solution
-pub data Result : Type 0 where
-  found : Float → List Float → Result
-
-module _ (A : System) (bnrm tol : Float) where
-  -- `left` rounds are left, and the next is number iter
-  unfoldable pub loop : ℕ → ℕ → Float → Float → Work → Result
-  loop zero iter bkden err w = found err (w .x)
-  loop (suc left) iter bkden err w =
-      let o = turned A (eqb iter 1) bkden w in
-      let e = errorOf A bnrm (o .work) in
-      elim (le e tol) [
-        | true ↦ found e (o .work .x)
-        | false ↦ loop left (iter + 1) (o .bkden) e (o .work)
-      ]
-
--- with vectors of zeros around the start x; iter goes from 1 to below the limit
-unfoldable pub solved : ℕ → List Float → List Float → List Float → Float → ℕ → Result
-solved n a b x tol limit =
-    let A = loneSystem n a in
-    let o = fillOf plus0 n in
-    let w : Work = record { x = x; r = o; rr = o; z = o; zz = o; p = o; pp = o } in
-    loop A (normTwoOf n b) tol (limit - 1) 1 plus0 plus0 (begun A b w)
 
 -- ---- the refusals
 
@@ -72,6 +43,7 @@ pub data Outcome : Type 0 where
 abbrev pub finished : ℕ → Result → List Float → Outcome
 finished n (found err x) s = outcome (Solved err) x (fillOf plus0 (8 * n) ++ drop (8 * n) s)
 
+-- a refusal changes nothing
 abbrev pub byCheck : Checked → List Float → List Float → Outcome → Outcome
 byCheck Fine x s o = o
 byCheck (Bad r) x s o = outcome (Refused r) x s
@@ -87,24 +59,3 @@ pub data Said : Type 0 where
 abbrev pub said : Answer → Said
 said (Solved err) = error err
 said (Refused r) = refused (numberOf r) (placeOf r)
-
--- ---- what the inner functions promise
-
-abbrev pub refusedOf : Checked → Answer
-refusedOf Fine = Solved plus0
-refusedOf (Bad r) = Refused r
-
-pub record Ran (n : ℕ) (o : Result) (s : List Float) (err : Float) (x s′ : List Float) : Type 0 where
-  pub is : found err x ≡ o
-  pub left : s′ ≡ fillOf plus0 (8 * n) ++ drop (8 * n) s
-
-pub record Runs (n : ℕ) (a b x : List Float) (limit : ℕ) (s : List Float) : Type 0 where
-  pub loops : Loops n a s
-  pub right : length b ≡ n
-  pub start : length x ≡ n
-  pub rounds : limit ≤ 5000
-
--- the rounds, from a scratch whose diagonal is in its place: the error, the solution in X, and the excess
-pub record Looped (n : ℕ) (a : List Float) (bnrm tol : Float) (limit : ℕ) (m : List Float) (err : Float) (m′ : List Float) : Type 0 where
-  pub is : part m (7 * n) n ≡ diagonalOf n a → found err (part m′ 0 n) ≡ loop (loneSystem n a) bnrm tol (limit - 1) 1 plus0 plus0 (workIn n m)
-  pub rest : part m (7 * n) n ≡ diagonalOf n a → drop (8 * n) m′ ≡ drop (8 * n) m

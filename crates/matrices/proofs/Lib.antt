@@ -1,2 +1,4 @@
+pub mod Grid
+pub mod Lengths
 mod Rows
 mod Moments

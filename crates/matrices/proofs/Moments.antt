@@ -10,9 +10,11 @@ use lib.Seq.{getD-set-other}
 use lib.Ieee.{Float, nan}
 use Rattle.numbers.specs.Ops.{_⊕_, _⊖_, _⊗_, _⊘_}
 use Rattle.numbers.specs.Root.{rootOf}
-use Rattle.arrays.specs.Part.{part, put, tab, tab-ext, getD-tab, getD-part, length-tab, length-put, part-put-above, part-put-same, put-put-same, put-comm}
-use Rattle.arrays.specs.Part.{put-tab-none, put-tab-more, getD-put-above, getD-put-below}
-use Rattle.arrays.specs.Sums.{_!_, sumTo, products, plus0, whole, fold-none, fold-turn}
+use Rattle.arrays.specs.Part.{part, put, tab}
+use Rattle.arrays.proofs.Part.{tab-ext, getD-tab, getD-part, length-tab, length-put, part-put-above, part-put-same, put-put-same, put-comm}
+use Rattle.arrays.proofs.Part.{put-tab-none, put-tab-more, getD-put-above, getD-put-below}
+use Rattle.arrays.specs.Sums.{_!_, sumTo, products, plus0, whole}
+use Rattle.arrays.proofs.Folds.{fold-none, fold-turn}
 use Rattle.arrays.specs.Vectors.{fillOf, mapOf, zipOf}
 use Rattle.matrices.specs.Stats.{column, columnMeanOf, varianceOf, deviationOf}
 

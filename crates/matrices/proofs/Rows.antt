@@ -6,9 +6,12 @@ use native.Mathlib.Omega.{arith}
 use lib.ListN.{set}
 use lib.Ieee.{Float, nan}
 use Rattle.numbers.specs.Ops.{_⊗_}
-use Rattle.arrays.specs.Part.{part, getD-part}
-use Rattle.arrays.specs.Sums.{_!_, productOf, fold-ext}
-use Rattle.matrices.specs.Products.{rowProduct, row-room}
+use Rattle.arrays.specs.Part.{part}
+use Rattle.arrays.proofs.Part.{getD-part}
+use Rattle.arrays.specs.Sums.{_!_, productOf}
+use Rattle.arrays.proofs.Folds.{fold-ext}
+use Rattle.matrices.specs.Products.{rowProduct}
+use Rattle.matrices.proofs.Lengths.{row-room}
 use Rattle.arrays.proofs.Turns.{Made, part-kept, made-more}
 
 -- row r of the matrix at `mat`, which starts at `at`, is as it was

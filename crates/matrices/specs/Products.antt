@@ -1,12 +1,9 @@
--- Products of a matrix by rows of `cols` elements with a vector: `xa`, whose order is each sum's own, from +0. Definitions, lengths, steps from row to row.
-use mathlib.Core.Path.{_≡_}
+-- Products of a matrix by rows of `cols` elements with a vector: `xa`, whose order is each sum's own, from +0. Definitions only.
 use mathlib.Core.List.{List}
 use Prim.Native.Nat.{ℕ, _+_, _*_, _≤_, _<_}
-use native.Mathlib.Nat.{mul-le-mul-right, suc-mul}
-use native.Mathlib.Numerals.{add-one}
 use lib.ListN.{length}
 use lib.Ieee.{Float}
-use Rattle.arrays.specs.Part.{tab, length-tab}
+use Rattle.arrays.specs.Part.{tab}
 use Rattle.arrays.specs.Sums.{_!_, products, plus0}
 
 -- x.xa(true, m): entry i is row i of m times x
@@ -22,21 +19,6 @@ columnProduct m rows cols xs j = products plus0 (λ i. m ! (i * cols + j)) (λ i
 
 unfoldable pub columnsOf : List Float → ℕ → ℕ → List Float → List Float
 columnsOf m rows cols xs = tab (columnProduct m rows cols xs) cols
-
-pub length-rows : (m : List Float) (rows cols : ℕ) (xs : List Float) → length (rowsOf m rows cols xs) ≡ rows
-unfolding rowsOf
-length-rows m rows cols xs = length-tab (rowProduct m cols xs) rows
-
-pub length-columns : (m : List Float) (rows cols : ℕ) (xs : List Float) → length (columnsOf m rows cols xs) ≡ cols
-unfolding columnsOf
-length-columns m rows cols xs = length-tab (columnProduct m rows cols xs) cols
-
--- row i of `rows` rows lies within them, and where the next begins
-pub row-room : (i rows cols : ℕ) → i < rows → i * cols + cols ≤ rows * cols
-row-room i rows cols h = rw (suc-mul i cols) at (mul-le-mul-right cols h)
-
-pub next-row : (i cols : ℕ) → i * cols + cols ≡ (i + 1) * cols
-next-row i cols = rw (add-one, suc-mul)
 
 -- a matrix of `all` elements and a vector of n in s, and room for k more in none of them
 pub record Within (s : List Float) (mat all v n out k : ℕ) : Type 0 where

@@ -3,7 +3,9 @@ use mathlib.Core.List.{List}
 use Prim.Native.Nat.{ℕ, _+_, _*_, _^_, _≤_, _<_}
 use lib.ListN.{length}
 use lib.Ieee.{Float}
-use Rattle.numbers.specs.Ops.{_⊖_, _⊗_, _⊘_}
+use Rattle.numbers.specs.Ops.{_⊖_, _⊘_}
+use Rattle.numbers.specs.declared.powers.Exponent.the-variants.{Two}
+use Rattle.numbers.specs.Powers.{powerOf}
 use Rattle.numbers.specs.Root.{rootOf}
 use Rattle.arrays.specs.Sums.{_!_, sumTo, products, plus0, whole}
 
@@ -17,7 +19,7 @@ columnMeanOf m rows cols j = sumTo plus0 (column m cols j) rows ⊘ whole rows
 unfoldable pub varianceOf : List Float → ℕ → ℕ → ℕ → Float
 varianceOf m rows cols j =
     let mu = sumTo plus0 (column m cols j) rows ⊘ whole rows in
-    products plus0 (column m cols j) (column m cols j) rows ⊘ whole rows ⊖ mu ⊗ mu
+    products plus0 (column m cols j) (column m cols j) rows ⊘ whole rows ⊖ powerOf Two mu
 
 -- of a negative variance a NaN
 unfoldable pub deviationOf : List Float → ℕ → ℕ → ℕ → Float

@@ -56,7 +56,9 @@ pub fn rows_of(m: &[f64], rows: usize, cols: usize, s: &mut [f64], v: usize, out
 
 // Column j of m times the vector at v.
 pub fn column_product(m: &[f64], rows: usize, cols: usize, j: usize, s: &[f64], v: usize) -> f64
-    requires { ⌜ (rows * cols ≤ length (now m)) × ((v + rows ≤ length (now s)) × (j < cols)) ⌝ }
+    requires { ⌜ rows * cols ≤ length (now m) ⌝ }
+    requires { ⌜ v + rows ≤ length (now s) ⌝ }
+    requires { ⌜ j < cols ⌝ }
     ensures { λ r. ⌜ r ≡ columnProduct (now (m .entry)) rows cols (part (now (s .entry)) v rows) j ⌝ }
 {
     let mut t = 0.0;
@@ -70,7 +72,7 @@ pub fn column_product(m: &[f64], rows: usize, cols: usize, j: usize, s: &[f64], 
     t
 }
 
-// The transposed one.
+// The transpose of a matrix in a slice of its own times the vector at v, a column at a time.
 pub fn columns_of(m: &[f64], rows: usize, cols: usize, s: &mut [f64], v: usize, out: usize)
     requires { ⌜ Beside (now m) (rows * cols) (now s) v rows out cols ⌝ }
     ensures { λ _. ⌜ now (s .exit) ≡ put (now (s .entry)) out (columnsOf (now (m .entry)) rows cols (part (now (s .entry)) v rows)) ⌝ }

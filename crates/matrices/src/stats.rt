@@ -1,6 +1,8 @@
 // Column statistics of a lent matrix, walked once by its rows. Each column's sums run in row order from +0.
 use arrays::sums::float_of;
 use arrays::vectors::fill;
+use numbers::powers::Exponent;
+use numbers::powers::power;
 use numbers::square_root::root;
 ghost use mathlib.Core.Path.{_≡_};
 ghost use Prim.Native.Nat.{_+_, _≤_};
@@ -34,8 +36,11 @@ pub fn moments(m: &[f64], rows: usize, cols: usize, s: &mut [f64], means: usize,
 
 // The row that starts at `at`, added to the sums, and its squares to the sums of squares, in one loop.
 fn add_row(m: &[f64], at: usize, s: &mut [f64], sums: usize, squares: usize, cols: usize)
-    requires { ⌜ (at + cols ≤ length (now m)) × ((sums + cols ≤ squares) × (squares + cols ≤ length (now s))) ⌝ }
-    ensures { λ _. ⌜ now (s .exit) ≡ put (put (now (s .entry)) sums (zipOf (λ (v x : Float). v ⊕ x) cols (part (now (s .entry)) sums cols) (part (now (m .entry)) at cols)))
+    requires { ⌜ at + cols ≤ length (now m) ⌝ }
+    requires { ⌜ sums + cols ≤ squares ⌝ }
+    requires { ⌜ squares + cols ≤ length (now s) ⌝ }
+    ensures { λ _. ⌜ now (s .exit)
+        ≡ put (put (now (s .entry)) sums (zipOf (λ (v x : Float). v ⊕ x) cols (part (now (s .entry)) sums cols) (part (now (m .entry)) at cols)))
         squares (zipOf (λ (v x : Float). v ⊕ x ⊗ x) cols (part (now (s .entry)) squares cols) (part (now (m .entry)) at cols)) ⌝ }
 {
     for j in 0..cols {
@@ -62,6 +67,6 @@ fn finish_deviations(s: &mut [f64], out: usize, means: usize, d: f64, cols: usiz
 {
     for j in 0..cols {
         let mu = s[means + j];
-        s[out + j] = root(s[out + j] / d - mu * mu);
+        s[out + j] = root(s[out + j] / d - power(mu, Exponent::Two));
     }
 }

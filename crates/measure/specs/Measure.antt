@@ -1,4 +1,4 @@
--- What the measured pieces ask of the lent slices. Definitions only.
+-- What the measured pieces ask of the lent slices. Inner definitions: no promise names them.
 use mathlib.Core.Path.{_≡_}
 use mathlib.Core.List.{List}
 use Prim.Native.Nat.{ℕ, _+_, _*_, _≤_}

@@ -1,4 +1,5 @@
-// Pieces of a fit, each `count` times on lent scratch, for tools/speed. The answer is the place of the result in the scratch, or 0 where a size is wrong and nothing was done.
+// Pieces of a fit, each `count` times on lent scratch, for tools/speed. The answer is the place of the result in the scratch, or 0 where a size is wrong and
+// nothing was done.
 use arrays::scan::Found;
 use arrays::vectors::copy_from;
 use bg_solver::shared::Turned;

@@ -5,8 +5,8 @@ use Prim.Native.Nat.{ℕ, _*_}
 use native.Mathlib.Omega.{arith}
 use lib.ListN.{length, length-append}
 use lib.Ieee.{Float, neg}
-use Rattle.arrays.specs.Part.{length-tab}
-use Rattle.arrays.specs.Vectors.{length-map, length-zip}
+use Rattle.arrays.proofs.Part.{length-tab}
+use Rattle.arrays.proofs.Lengths.{length-map, length-zip}
 use Rattle.newton.specs.Newton.{g1Of, g2At, gradOf, prsOf}
 
 pub length-g1 : (p : ℕ) (t : Float) (xs q1 q2 : List Float) → length (g1Of p t xs q1 q2) ≡ p

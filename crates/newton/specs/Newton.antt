@@ -1,4 +1,5 @@
--- The Newton terms of a round, in lasso_optimizer.rs's order, of weights w, bounds u, gradphi, which is x'z (g1Of doubles it), and the barrier's weight t. Definitions only.
+-- The Newton terms of a round, in lasso_optimizer.rs's order, of weights w, bounds u, gradphi, which is x'z (g1Of doubles it), and the barrier's weight t.
+-- Definitions only.
 use mathlib.Core.Bool.{Bool, cond}
 use mathlib.Core.List.{List, _++_}
 use Prim.Native.Nat.{ℕ, _+_, _≤_}

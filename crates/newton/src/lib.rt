@@ -9,6 +9,7 @@ ghost use Rattle.arrays.specs.Part.{part, put};
 ghost use Rattle.arrays.specs.Vectors.{mapOf, zipOf, One, Two};
 ghost use Rattle.newton.specs.Newton.{startT, nextT, overSum, overDifference, sumOfSquares, differenceOfSquares, g1Of, g2At, prbAt, prsOf, tolerance, Three};
 
+// The barrier's first weight: 1 / lambda, but at least 1 and at most 2 p / 0.001.
 pub fn first_t(p: usize, lambda: f64) -> f64
     requires { ⌜ p < 2 ^ 32 ⌝ }
     ensures { λ r. ⌜ r ≡ startT p lambda ⌝ }
@@ -16,6 +17,7 @@ pub fn first_t(p: usize, lambda: f64) -> f64
     minimum(maximum(1.0, 1.0 / lambda), 2.0 * float_of(p) / 0.001)
 }
 
+// Where the last step was at least a half, t by the gap: never below what it was, and at most twice that. Else, and where the step is a NaN, as it was.
 pub fn next_t(p: usize, s: f64, gap: f64, t: f64) -> f64
     requires { ⌜ p < 2 ^ 32 ⌝ }
     ensures { λ r. ⌜ r ≡ nextT p s gap t ⌝ }
@@ -73,7 +75,8 @@ pub fn difference_of_squares(s: &mut [f64], out: usize, a: usize, b: usize, t: f
 // g1, in the place of gradphi.
 pub fn g1(s: &mut [f64], gradphi: usize, q1: usize, q2: usize, t: f64, p: usize)
     requires { ⌜ Three (now s) gradphi gradphi q1 q2 p ⌝ }
-    ensures { λ _. ⌜ now (s .exit) ≡ put (now (s .entry)) gradphi (g1Of p t (part (now (s .entry)) gradphi p) (part (now (s .entry)) q1 p) (part (now (s .entry)) q2 p)) ⌝ }
+    ensures { λ _. ⌜ now (s .exit)
+        ≡ put (now (s .entry)) gradphi (g1Of p t (part (now (s .entry)) gradphi p) (part (now (s .entry)) q1 p) (part (now (s .entry)) q2 p)) ⌝ }
 {
     for i in 0..p {
         s[gradphi + i] = 2.0 * s[gradphi + i] - (s[q1 + i] - s[q2 + i]) / t;
@@ -92,13 +95,15 @@ pub fn negated(s: &mut [f64], out: usize, a: usize, p: usize)
 // -g2
 pub fn negated_g2(s: &mut [f64], out: usize, q1: usize, q2: usize, lambda: f64, t: f64, p: usize)
     requires { ⌜ Two (now s) out q1 q2 p ⌝ }
-    ensures { λ _. ⌜ now (s .exit) ≡ put (now (s .entry)) out (zipOf (λ (a b : Float). neg (g2At lambda t a b)) p (part (now (s .entry)) q1 p) (part (now (s .entry)) q2 p)) ⌝ }
+    ensures { λ _. ⌜ now (s .exit)
+        ≡ put (now (s .entry)) out (zipOf (λ (a b : Float). neg (g2At lambda t a b)) p (part (now (s .entry)) q1 p) (part (now (s .entry)) q2 p)) ⌝ }
 {
     for i in 0..p {
         s[out + i] = -(lambda - (s[q1 + i] + s[q2 + i]) / t);
     }
 }
 
+// 2 + d1
 pub fn prb(s: &mut [f64], out: usize, d1: usize, p: usize)
     requires { ⌜ One (now s) out d1 p ⌝ }
     ensures { λ _. ⌜ now (s .exit) ≡ put (now (s .entry)) out (mapOf prbAt p (part (now (s .entry)) d1 p)) ⌝ }
@@ -108,16 +113,18 @@ pub fn prb(s: &mut [f64], out: usize, d1: usize, p: usize)
     }
 }
 
+// prb * d1 - d2²
 pub fn prs(s: &mut [f64], out: usize, prb: usize, d1: usize, d2: usize, p: usize)
     requires { ⌜ Three (now s) out prb d1 d2 p ⌝ }
-    ensures { λ _. ⌜ now (s .exit) ≡ put (now (s .entry)) out (prsOf p (part (now (s .entry)) prb p) (part (now (s .entry)) d1 p) (part (now (s .entry)) d2 p)) ⌝ }
+    ensures { λ _. ⌜ now (s .exit)
+        ≡ put (now (s .entry)) out (prsOf p (part (now (s .entry)) prb p) (part (now (s .entry)) d1 p) (part (now (s .entry)) d2 p)) ⌝ }
 {
     for i in 0..p {
         s[out + i] = s[prb + i] * s[d1 + i] - s[d2 + i] * s[d2 + i];
     }
 }
 
-// The solver's tolerance, of the gap and the norm of the gradient.
+// The solver's tolerance, from the gap and the gradient's norm, 0.1 at most. `later` takes a tenth: a round was made and no solve has missed its tolerance.
 pub fn solver_tolerance(later: bool, gap: f64, normg: f64) -> f64
     ensures { λ r. ⌜ r ≡ tolerance later gap normg ⌝ }
 {

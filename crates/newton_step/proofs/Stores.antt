@@ -4,12 +4,15 @@ use mathlib.Core.List.{List}
 use Prim.Native.Nat.{ℕ, _+_, _≤_}
 use native.Mathlib.Omega.{arith}
 use lib.Ieee.{Float, neg}
-use Rattle.arrays.specs.Part.{part, put, put-append, part-put-above}
-use Rattle.arrays.specs.Vectors.{mapOf, zipOf, length-map, length-zip}
+use Rattle.arrays.specs.Part.{part, put}
+use Rattle.arrays.proofs.Part.{put-append, part-put-above}
+use Rattle.arrays.specs.Vectors.{mapOf, zipOf}
+use Rattle.arrays.proofs.Lengths.{length-map, length-zip}
 use Rattle.settings.specs.declared.Terms.{Terms}
 use Rattle.layout.specs.declared.Sizes.{Sizes}
 use Rattle.layout.specs.declared.Places.{Places}
-use Rattle.layout.specs.Slots.{Store, Has, Laid, vars, then}
+use Rattle.layout.specs.Slots.{Store, Has, Laid, vars}
+use Rattle.layout.proofs.Slots.{then}
 use Rattle.layout.specs.Slots.{Slot.W, Slot.U, Slot.Q1, Slot.Q2, Slot.D1, Slot.D2, Slot.PRB, Slot.PRS, Slot.GRAD, Slot.XNU, Slot.Z}
 use Rattle.design.specs.Mode.{transposedOf}
 use Rattle.design.proofs.Lengths.{length-transposed}

@@ -5,6 +5,7 @@ ghost use Prim.Native.Nat.{_-_, _^_, _≤_, _<_};
 ghost use Rattle.numbers.specs.Root.{rootOf};
 ghost use Rattle.numbers.specs.Nearest.{Nearest, Half, RootBits};
 
+// Both zeros and +infinity are their own roots; below 0, and of a NaN, it is a NaN.
 #[no_mangle]
 pub extern "C" fn root(x: f64) -> f64
     ensures { λ r. ⌜ r ≡ rootOf x ⌝ }
@@ -27,7 +28,8 @@ pub extern "C" fn root(x: f64) -> f64
 
 // The pattern of the root of the pattern `bits`, which is above zero and finite.
 fn root_bits(bits: u64) -> u64
-    requires { ⌜ (0 < bits) × (bits < 0x7ff0_0000_0000_0000) ⌝ }
+    requires { ⌜ 0 < bits ⌝ }
+    requires { ⌜ bits < 0x7ff0_0000_0000_0000 ⌝ }
     ensures { λ r. ⌜ RootBits bits r ⌝ }
 {
     let n = normalised(bits);
@@ -38,8 +40,10 @@ fn root_bits(bits: u64) -> u64
 
 // The pattern of the root of digits * 2^(b - 2098): half the power of two, and of an odd one the digits take a factor of two.
 fn half(b: u64, digits: u64) -> u64
-    requires { ⌜ (2 ^ 52 ≤ digits) × (digits < 2 ^ 53) ⌝ }
-    requires { ⌜ (972 ≤ b) × (b ≤ 3069) ⌝ }
+    requires { ⌜ 2 ^ 52 ≤ digits ⌝ }
+    requires { ⌜ digits < 2 ^ 53 ⌝ }
+    requires { ⌜ 972 ≤ b ⌝ }
+    requires { ⌜ b ≤ 3069 ⌝ }
     ensures { λ r. ⌜ Half b digits r ⌝ }
 {
     if b % 2 == 0 {
@@ -50,7 +54,8 @@ fn half(b: u64, digits: u64) -> u64
 
 // The whole number nearest to the root of m * 2^52: from the top, two digits of the argument and one of the root a round.
 fn nearest_root(m: u64) -> u64
-    requires { ⌜ (2 ^ 52 ≤ m) × (m < 2 ^ 54 - 1) ⌝ }
+    requires { ⌜ 2 ^ 52 ≤ m ⌝ }
+    requires { ⌜ m < 2 ^ 54 - 1 ⌝ }
     ensures { λ r. ⌜ Nearest m r ⌝ }
 {
     let mut r: u64 = 0;

@@ -11,11 +11,13 @@ use Rattle.arrays.specs.Sums.{norm2Of, plus0}
 use Rattle.settings.specs.declared.Terms.{Terms}
 use Rattle.layout.specs.declared.Sizes.{Sizes}
 use Rattle.layout.specs.declared.Places.{Places}
-use Rattle.layout.specs.Slots.{Store, Has, Laid, vars, rest, got, next}
+use Rattle.layout.specs.Slots.{Store, Has, Laid, vars, rest}
+use Rattle.layout.proofs.Slots.{got, next}
+use Rattle.refusal.specs.declared.Failure.the-variants.{Tolerance}
 use Rattle.inner_solver.specs.Inner.{DidBegin, beginStore, bnrmOf}
 use Rattle.newton.specs.Newton.{nextT, tolerance}
 use Rattle.lasso_optimizer.specs.declared.Scalars.{Scalars}
-use Rattle.lasso_optimizer.specs.declared.Opened.the-variants.{Ready, Done, Tiny}
+use Rattle.lasso_optimizer.specs.declared.Opened.the-variants.{Ready, Done, Failed}
 use Rattle.lasso_optimizer.specs.Data.{held, opened}
 use Rattle.lasso_optimizer.specs.Opening.{gapStore, gapOf, dualOf, newtonStore, pcgtolOf, readyBy, openBy, opens}
 use Rattle.lasso_optimizer.specs.Fit.{DidOpen, openedRes, openedData}
@@ -46,9 +48,9 @@ module _ (sh : Sizes) (tm : Terms) (m : List Float) (tol : Float) (r : ℕ) (a :
     is-pcgtol : x ≡ pcgtolOf sh r a gap (newtonStore sh tm m t (gapStore sh tm m v))
     is-pcgtol = is-x ∙ got sh newton-left (pcgtolOf sh r a gap)
 
-    pub open-tiny : le x plus0 ≡ true → DidOpen sh e (opens sh tm m tol r (held a v)) Tiny s₂
+    pub open-fails : le x plus0 ≡ true → DidOpen sh e (opens sh tm m tol r (held a v)) (Failed Tolerance) s₂
     unfolding opens openBy readyBy openedRes openedData
-    open-tiny d = rw (← is-gap, ← is-dual, c, ← is-t, ← is-pcgtol, d) (record { is = refl; left = newton-left })
+    open-fails d = rw (← is-gap, ← is-dual, c, ← is-t, ← is-pcgtol, d) (record { is = refl; left = newton-left })
 
     pub open-ready : le x plus0 ≡ false → {b : Float} {s₃ : List Float} → DidBegin sh (rest sh s₂) (vars sh s₂) b s₃
         → DidOpen sh e (opens sh tm m tol r (held a v)) (Ready (opened a t dual x b)) s₃

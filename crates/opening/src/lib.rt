@@ -9,6 +9,7 @@ use layout::Sizes;
 use newton::next_t;
 use newton::solver_tolerance;
 use newton_step::newton_terms;
+use refusal::Failure;
 use settings::Terms;
 ghost use mathlib.Core.Path.{_≡_};
 ghost use Rattle.design.specs.Mode.{Held};
@@ -29,6 +30,8 @@ fn pcgtol(s: &[f64], sh: Sizes, l: Places, r: u64, a: Scalars, gap: f64) -> f64
     solver_tolerance(!a.missed, gap, normg)
 }
 
+// Opens round r from the scalars that the one before left. Done where the gap over the dual value is below tol; Failed where the solver's tolerance is at or
+// below 0; else Ready. A NaN is neither, so it goes on.
 pub fn open(
     m: &[f64],
     sh: Sizes,
@@ -50,7 +53,7 @@ pub fn open(
     newton_terms(m, sh, tm, s, l, t);
     let pcg = pcgtol(s, sh, l, r, a, g.gap);
     if pcg <= 0.0 {
-        return Opened::Tiny;
+        return Opened::Failed(Failure::Tolerance);
     }
     let bnrm = begin(s, sh, l);
     Opened::Ready(Scalars {

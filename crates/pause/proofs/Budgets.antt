@@ -10,7 +10,7 @@ use Rattle.pause.specs.Paused.{State, opening, solving, searching, Pendi
 use Rattle.pause.proofs.Steps.{then-assoc, then-going, always-then, run-add, run-rule}
 use Rattle.pause.proofs.Cases.{Cases, next-cases, step-cases}
 
-module _ {S : Type 0} (F : Parts S) (M : ℕ) where
+module _ {X S : Type 0} (F : Parts X S) (M : ℕ) where
   -- settling leaves a step to take, and so does each step
   settle-pends : (x : State S) → Always (Pending M) Any (settle F M x)
   unfolding settle Pending
@@ -23,7 +23,7 @@ module _ {S : Type 0} (F : Parts S) (M : ℕ) where
   step-pends x = step-cases F M (Pending M) Any x (go x)
     where
       go : (x : State S) → Cases F M (Pending M) Any x
-      go (opening r c s) = record { on-ready = λ t e. tt; on-done = λ t e. tt; on-tiny = λ t e. tt }
+      go (opening r c s) = record { on-ready = λ t e. tt; on-done = λ t e. tt; on-fails = λ x t e. tt }
       go (solving r k c s) = record { on-more = λ t e h. tt; on-last = λ t e h. tt; on-stop = λ t e. tt }
       go (searching r j c s) = record { on-accept = λ t e h. h; on-limit = λ t e h. tt; on-halve = λ t e h. tt; on-spent = λ t e h. tt }
 
@@ -35,7 +35,7 @@ module _ {S : Type 0} (F : Parts S) (M : ℕ) where
       (λ y p. run-rule (step F M) (Pending M) (λ n. Pending M) Any step-pends (λ n z q i. step-pends z) b 0 y p p)
 
   -- what each step that is to be taken keeps, n the steps made, a call keeps
-  pub call-rule : (I : ℕ → State S → Type 0) (P : End S → Type 0) →
+  pub call-rule : (I : ℕ → State S → Type 0) (P : End X S → Type 0) →
       ((n r : ℕ) (c : Counts) (s : S) → M ≤ r → I n (opening r c s) → P (end limit c s)) →
       ((n : ℕ) (x : State S) → Pending M x → I n x → Always (I (suc n)) P (step F M x)) →
       (b n : ℕ) (x : State S) → I n x → Always (I (n + b)) P (call F M b x)
@@ -60,7 +60,7 @@ module _ {S : Type 0} (F : Parts S) (M : ℕ) where
   unfolding call run then
   budget-0 x p = rw (settle-nothing x p)
 
-  settle-again : (m : Progress (End S) (State S)) (b : ℕ) → Always (Pending M) Any m → then m (call F M b) ≡ then m (run (step F M) b)
+  settle-again : (m : Progress (End X S) (State S)) (b : ℕ) → Always (Pending M) Any m → then m (call F M b) ≡ then m (run (step F M) b)
   unfolding then call
   settle-again (over e) b h = refl
   settle-again (going x) b h = rw (settle-nothing x h)
@@ -86,6 +86,6 @@ module _ {S : Type 0} (F : Parts S) (M : ℕ) where
   split-budget a b bs x = rw (calls-are-one (a + b) bs x, calls-are-one a (b ∷ bs) x, add-assoc)
 
 -- M = 0: the first call ends a fresh fit as limit, with no step made
-pub limit-0 : {S : Type 0} (F : Parts S) (b : ℕ) (bs : List ℕ) (s : S) → calls (call F 0) (b ∷ bs) (start s) ≡ over (end limit none s)
+pub limit-0 : {X S : Type 0} (F : Parts X S) (b : ℕ) (bs : List ℕ) (s : S) → calls (call F 0) (b ∷ bs) (start s) ≡ over (end limit none s)
 unfolding calls call settle nextRound then
 limit-0 F b bs s = refl

@@ -10,7 +10,7 @@ use Rattle.pause.specs.Bounds.{OpeningIn, Within, Counted, EndIn, EndWit
 use Rattle.pause.proofs.Cases.{Cases, step-cases}
 use Rattle.pause.proofs.Budgets.{call-rule, calls-are-one}
 
-module _ {S : Type 0} (F : Parts S) (M : ℕ) where
+module _ {X S : Type 0} (F : Parts X S) (M : ℕ) where
   pub start-counted : (s : S) → Counted F M 0 (start s)
   unfolding Within countsOf made
   start-counted s = omega arith
@@ -26,7 +26,7 @@ module _ {S : Type 0} (F : Parts S) (M : ℕ) where
         go : (x : State S) → Pending M x → Counted F M n x → Cases F M (Counted F M (suc n)) (EndWithin F M) x
         go (opening r c s) p h =
             let e : EndIn F M (round+ c) = at-end (r + 1) (round+ c) (omega arith) in
-            record { on-ready = λ t q. omega arith; on-done = λ t q. e; on-tiny = λ t q. e }
+            record { on-ready = λ t q. omega arith; on-done = λ t q. e; on-fails = λ x t q. e }
         go (solving r k c s) p h = record { on-more = λ t q l. omega arith; on-last = λ t q l. omega arith; on-stop = λ t q. omega arith }
         go (searching r j c s) p h =
             let e : EndIn F M (trial+ c) = at-end (r + 1) (trial+ c) (omega arith) in

@@ -16,7 +16,7 @@ pub start-kept : {S : Type 0} (I : ℕ → S → Type 0) (s : S) → I 0 s → K
 unfolding countsOf dataOf openedBy
 start-kept I s h = record { opened-all = refl; holds = h }
 
-module _ {S : Type 0} (F : Parts S) (M : ℕ) (I : ℕ → S → Type 0) (keeps : Keeps I F M) where
+module _ {X S : Type 0} (F : Parts X S) (M : ℕ) (I : ℕ → S → Type 0) (keeps : Keeps I F M) where
   step-kept : (x : State S) → Pending M x → Kept I x → Always (Kept I) (EndKept I) (step F M x)
   unfolding Pending EndKept countsOf dataOf openedBy round+ solver+ trial+
   step-kept x p h = step-cases F M (Kept I) (EndKept I) x (go x p h)
@@ -27,7 +27,7 @@ module _ {S : Type 0} (F : Parts S) (M : ℕ) (I : ℕ → S → Type 0) (keeps 
           record {
             on-ready = λ t q. record { opened-all = omega arith; holds = rw q at o };
             on-done = λ t q. rw q at o;
-            on-tiny = λ t q. rw q at o;
+            on-fails = λ x t q. rw q at o;
           }
       go (solving r k c s) p h =
           let o = keeps .by-turns (c .rounds) k s (h .holds) in

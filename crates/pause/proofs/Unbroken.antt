@@ -1,4 +1,4 @@
--- The pause theorem: calls with budgets enough end as the unbroken fit does. Assumes nothing.
+-- The pause theorem: calls whose budgets suffice end as the unbroken fit does. Assumes nothing.
 use Prim.Native.Nat.{ℕ, suc, _+_, _-_, _*_, _<_, _≤_}
 use native.Mathlib.Nat.{mul-le-mul-right, sub-eq-zero-of-le, sub-zero, zero-add}
 use native.Mathlib.Omega.{arith}
@@ -20,29 +20,29 @@ sub-step m r h = omega arith
 suc-sub-one : (n : ℕ) → suc n - 1 ≡ n
 suc-sub-one n = omega arith
 
-module _ {S : Type 0} (F : Parts S) (M : ℕ) where
+module _ {X S : Type 0} (F : Parts X S) (M : ℕ) where
   -- how the unbroken fit ends from what round r's search leaves, and from what its solver leaves
-  fromSearch : ℕ → Progress (End S) (Work S) → End S
+  fromSearch : ℕ → Progress (End X S) (Work S) → End X S
   fromSearch r m = close (then m (manyRounds F (M - (r + 1)) (r + 1)))
 
-  fromSolve : ℕ → Progress (End S) (Work S) → End S
+  fromSolve : ℕ → Progress (End X S) (Work S) → End X S
   fromSolve r m = fromSearch r (then m (lineSearch F (F .trials)))
 
   -- how the unbroken fit ends from a stage on
-  pub finish : State S → End S
+  pub finish : State S → End X S
   finish (opening r c s) = close (manyRounds F (M - r) r (work c s))
   finish (solving r k c s) = fromSolve r (solve F (suc (F .solves) - k) k (work c s))
   finish (searching r j c s) = fromSearch r (lineSearch F (F .trials - j) (work c s))
 
   -- a step leads to the end that was to come
-  leads-cases : (u : End S) (x : State S) → Pending M x → Within F M x → finish x ≡ u → Cases F M (λ y. finish y ≡ u) (λ e. e ≡ u) x
+  leads-cases : (u : End X S) (x : State S) → Pending M x → Within F M x → finish x ≡ u → Cases F M (λ y. finish y ≡ u) (λ e. e ≡ u) x
   unfolding Pending Within finish fromSolve fromSearch close then manyRounds oneRound openRound solve lineSearch
   leads-cases u (opening r c s) p w h =
       let g = rw (sub-step M r p) at h in
       record {
         on-ready = λ t q. rw (suc-sub-one (F .solves)) (rw (q, openRound) at g);
         on-done = λ t q. rw (q, openRound) at g;
-        on-tiny = λ t q. rw (q, openRound) at g;
+        on-fails = λ x t q. rw (q, openRound) at g;
       }
   leads-cases u (solving r k c s) p w h =
       let l : k < suc (F .solves) = omega arith in
@@ -62,7 +62,7 @@ module _ {S : Type 0} (F : Parts S) (M : ℕ) where
       }
 
   -- after n steps, and u is to come
-  pub record Leads (u : End S) (n : ℕ) (x : State S) : Type 0 where
+  pub record Leads (u : End X S) (n : ℕ) (x : State S) : Type 0 where
     pub counted : Counted F M n x
     pub leads : finish x ≡ u
 
@@ -77,13 +77,13 @@ module _ {S : Type 0} (F : Parts S) (M : ℕ) where
   pause-early n (solving r k c s) h p = omega (arith, mul-le-mul-right (1 + F .solves + F .trials) (h .within .inside))
   pause-early n (searching r j c s) h p = omega (arith, mul-le-mul-right (1 + F .solves + F .trials) (h .within .inside))
 
-  ended : (u : End S) (n : ℕ) → M * (1 + F .solves + F .trials) ≤ n → (m : Progress (End S) (State S)) →
+  ended : (u : End X S) (n : ℕ) → M * (1 + F .solves + F .trials) ≤ n → (m : Progress (End X S) (State S)) →
       Always (Leads u n) (λ e. e ≡ u) m → Always (Pending M) Any m → m ≡ over u
   ended u n enough (over e) h p = ap over h
   ended u n enough (going x) h p = absurd (omega (arith, pause-early n x (h .counted) p))
 
   module _ (some-solves : 1 ≤ F .solves) (some-trials : 1 ≤ F .trials) where
-    step-leads : (u : End S) (n : ℕ) (x : State S) → Pending M x → Leads u n x → Always (Leads u (suc n)) (λ e. e ≡ u) (step F M x)
+    step-leads : (u : End X S) (n : ℕ) (x : State S) → Pending M x → Leads u n x → Always (Leads u (suc n)) (λ e. e ≡ u) (step F M x)
     step-leads u n x p h =
         always-both (Counted F M (suc n)) (λ y. finish y ≡ u) (Leads u (suc n)) (EndWithin F M) (λ e. e ≡ u) (λ e. e ≡ u) (step F M x)
         (λ y c l. record { counted = c; leads = l }) (λ e w l. l)
@@ -91,7 +91,7 @@ module _ {S : Type 0} (F : Parts S) (M : ℕ) where
         (step-cases F M (λ y. finish y ≡ u) (λ e. e ≡ u) x (leads-cases u x p (h .counted .within) (h .leads)))
 
     -- ONE CALL leaves the end to come as it was
-    pub call-leads : (u : End S) (b n : ℕ) (x : State S) → Leads u n x → Always (Leads u (n + b)) (λ e. e ≡ u) (call F M b x)
+    pub call-leads : (u : End X S) (b n : ℕ) (x : State S) → Leads u n x → Always (Leads u (n + b)) (λ e. e ≡ u) (call F M b x)
     unfolding finish close manyRounds
     call-leads u = call-rule F M (Leads u) (λ e. e ≡ u) (λ n r c s l h. rw (sub-eq-zero-of-le l) at (h .leads)) (step-leads u)
 
@@ -109,7 +109,7 @@ module _ {S : Type 0} (F : Parts S) (M : ℕ) where
         (pending-at-pauses F M b bs (start s))
 
     -- what holds at the end of every first call holds of the unbroken fit
-    pub of-unbroken : (I : ℕ → State S → Type 0) (P : End S → Type 0) (s : S) →
+    pub of-unbroken : (I : ℕ → State S → Type 0) (P : End X S → Type 0) (s : S) →
         ((b : ℕ) → Always (I b) P (call F M b (start s))) → P (unbroken F M s)
     unfolding total
     of-unbroken I P s h =

@@ -1,13 +1,14 @@
 -- An invariant I n s of the data s after n rounds were opened, and what the parts must keep of it. Assumes nothing.
 use Prim.Native.Nat.{ℕ, _+_, _<_}
 use mathlib.Core.Path.{_≡_}
-use Rattle.pause.specs.Parts.{Opened, ready, done, tiny, Turned, more, stop, Tried, accept, halve, Parts, End, end}
+use Rattle.pause.specs.Parts.{Opened, ready, done, fails, Turned, more, stop, Tried, accept, halve, Parts, End, end}
 use Rattle.pause.specs.Paused.{State, countsOf, dataOf, openedBy}
 
-abbrev pub OfOpened : {S : Type 0} → (S → Type 0) → Opened S → Type 0
+-- P of the data, whatever was found; likewise below
+abbrev pub OfOpened : {X S : Type 0} → (S → Type 0) → Opened X S → Type 0
 OfOpened P (ready s) = P s
 OfOpened P (done s) = P s
-OfOpened P (tiny s) = P s
+OfOpened P (fails x s) = P s
 
 abbrev pub OfTurned : {S : Type 0} → (S → Type 0) → Turned S → Type 0
 OfTurned P (more s) = P s
@@ -19,7 +20,7 @@ OfTried P (halve s) = P s
 
 module _ {S : Type 0} (I : ℕ → S → Type 0) where
   -- the parts keep I in a fit of at most M rounds
-  pub record Keeps (F : Parts S) (M : ℕ) : Type 0 where
+  pub record Keeps {X : Type 0} (F : Parts X S) (M : ℕ) : Type 0 where
     pub by-opens : (n : ℕ) (s : S) → n < M → I n s → OfOpened (I (n + 1)) (F .opens n s)
     pub by-turns : (n k : ℕ) (s : S) → I n s → OfTurned (I n) (F .turns k s)
     pub by-aim : (n : ℕ) (s : S) → I n s → I n (F .aim s)
@@ -31,5 +32,5 @@ module _ {S : Type 0} (I : ℕ → S → Type 0) where
     pub holds : I (countsOf x .rounds) (dataOf x)
 
   -- at an end
-  unfoldable pub EndKept : End S → Type 0
+  unfoldable pub EndKept : {X : Type 0} → End X S → Type 0
   EndKept (end h c s) = I (c .rounds) s

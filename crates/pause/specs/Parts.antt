@@ -1,15 +1,13 @@
--- The parts of a fit over any data S, its three counts, and how it ends. Assumes nothing.
+-- The parts of a fit over any data S and any type X of failures, its three counts, and how it ends. Assumes nothing.
 use Prim.Native.Nat.{ℕ, _+_}
 
--- what opening a round finds: the solver is ready; the fit is done, converged; the solver's tolerance is tiny, at or below 0
-pub data Opened (S : Type 0) : Type 0 where
-  ready : S → Opened S
-  done : S → Opened S
-  tiny : S → Opened S
+-- what opening a round finds: the solver is ready; the fit is done, converged; it fails
+pub data Opened (X S : Type 0) : Type 0 where
+  ready : S → Opened X S
+  done : S → Opened X S
+  fails : X → S → Opened X S
 
--- what a solver round finds: more rounds are wanted; the solver stops.
--- A breakdown, `broke : S → Turned S`, an end as refused 19, would join here, in `solve`, `afterTurn` and `OfTurned`,
--- and as one more case of `AtSolving` in the proofs
+-- what a solver round finds: more rounds are wanted; the solver stops
 pub data Turned (S : Type 0) : Type 0 where
   more : S → Turned S
   stop : S → Turned S
@@ -20,14 +18,15 @@ pub data Tried (S : Type 0) : Type 0 where
   halve : S → Tried S
 
 -- rounds are numbered from 0, and in each at most `solves` solver rounds from 1 on and at most `trials` trials are made;
--- `aim` follows the last solver round
-pub record Parts (S : Type 0) : Type 0 where
-  pub opens : ℕ → S → Opened S
+-- `aim` follows the last solver round, and a round none of whose trials is accepted fails as `unaccepted`
+pub record Parts (X S : Type 0) : Type 0 where
+  pub opens : ℕ → S → Opened X S
   pub turns : ℕ → S → Turned S
   pub aim : S → S
   pub tries : S → Tried S
   pub solves : ℕ
   pub trials : ℕ
+  pub unaccepted : X
 
 -- rounds opened, solver rounds made, trials made
 pub record Counts : Type 0 where
@@ -51,13 +50,15 @@ trial+ c = record { rounds = c .rounds; solver = c .solver; trials = c .trials +
 unfoldable pub made : Counts → ℕ
 made c = c .rounds + c .solver + c .trials
 
-pub data How : Type 0 where
-  converged : How
-  limit : How
-  refused : ℕ → How
+-- how a fit ends
+pub data How (X : Type 0) : Type 0 where
+  converged : How X
+  limit : How X
+  failed : X → How X
 
-pub data End (S : Type 0) : Type 0 where
-  end : How → Counts → S → End S
+-- how it ended, with what counts, and its data then
+pub data End (X S : Type 0) : Type 0 where
+  end : How X → Counts → S → End X S
 
-abbrev pub howOf : {S : Type 0} → End S → How
+abbrev pub howOf : {X S : Type 0} → End X S → How X
 howOf (end h c s) = h

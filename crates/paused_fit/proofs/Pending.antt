@@ -6,7 +6,7 @@ use mathlib.Core.Logic.{inl, inr}
 use mathlib.Core.List.{[], _∷_}
 use denote.Enum.Declared.{tagOf}
 use types.Run.{OneOf}
-use Rattle.elastic_net.specs.declared.Way.the-variants.{Converged, Limit}
+use Rattle.refusal.specs.declared.Way.the-variants.{Converged, Limit}
 use Rattle.elastic_net.specs.declared.Answer.{Answer}
 use Rattle.elastic_net.specs.declared.Answer.the-variants.{Pending, Done, Refused}
 use Rattle.elastic_net.proofs.Answer.{the-type}

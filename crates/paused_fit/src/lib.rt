@@ -3,16 +3,17 @@ use elastic_net::Answer;
 use elastic_net::Resumed;
 use elastic_net::Started;
 use elastic_net::resume;
+use records::Paused;
 use settings::Settings;
-use stages::Paused;
+use whole_fit::Whole;
 use whole_fit::refused;
+use whole_fit::settled;
 use whole_fit::start_whole;
 ghost use mathlib.Core.Path.{_≡_};
 ghost use mathlib.Core.List.{[], _∷_};
 ghost use lib.ListN.{length};
-ghost use Rattle.elastic_net.specs.ElasticNet.{outcome};
 ghost use Rattle.promises.specs.Chain.{Chain};
-ghost use Rattle.whole_fit.specs.Fit.{wholeOf};
+ghost use Rattle.whole_fit.specs.Fit.{wholeOutcome, wholeOf};
 
 // Calls with these budgets, each on what the one before left, until one is not pending.
 fn resumed(
@@ -55,11 +56,12 @@ pub fn fit_in_pieces(
     w: &mut [f64],
     first: u64,
     second: u64,
-) -> Resumed
-    ensures { λ r. ⌜ outcome r (now (w .exit)) (now (s .exit)) ≡ wholeOf n p (now (x .entry)) (now (y .entry)) st (now (s .entry)) (now (w .entry)) ⌝ }
+) -> Whole
+    ensures { λ r. ⌜ wholeOutcome r (now (w .exit)) (now (s .exit))
+        ≡ wholeOf n p (now (x .entry)) (now (y .entry)) st (now (s .entry)) (now (w .entry)) ⌝ }
 {
     match start_whole(n, p, x, y, st, s, w.len()) {
-        Started::Ready(fresh) => resumed(
+        Started::Ready(fresh) => settled(resumed(
             n,
             p,
             x,
@@ -71,7 +73,7 @@ pub fn fit_in_pieces(
             first,
             second,
             5100 * st.rounds,
-        ),
+        )),
         Started::Refused(r) => refused(r),
     }
 }

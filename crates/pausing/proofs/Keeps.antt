@@ -10,7 +10,7 @@ use lib.Ieee.{Float, lt, le}
 use Rattle.numbers.specs.Kinds.{unsigned}
 use Rattle.numbers.specs.Ops.{_⊘_}
 use Rattle.arrays.specs.Sums.{plus0, dotOf}
-use Rattle.arrays.specs.Vectors.{length-zip}
+use Rattle.arrays.proofs.Lengths.{length-zip}
 use Rattle.settings.specs.declared.Terms.{Terms}
 use Rattle.layout.specs.declared.Sizes.{Sizes}
 use Rattle.layout.specs.Store.{upd}

@@ -8,11 +8,12 @@ use lib.ListN.{length}
 use lib.Ieee.{Float, lt, le}
 use Rattle.numbers.specs.Ops.{_⊘_}
 use Rattle.arrays.specs.Sums.{plus0, normInfOf}
-use Rattle.arrays.specs.Vectors.{length-map, length-zip}
-use Rattle.matrices.specs.Products.{length-rows}
+use Rattle.arrays.proofs.Lengths.{length-map, length-zip}
+use Rattle.matrices.proofs.Lengths.{length-rows}
 use Rattle.settings.specs.declared.Terms.{Terms}
 use Rattle.layout.specs.declared.Sizes.{Sizes}
-use Rattle.layout.specs.Slots.{Slot, Store, size, upd-sized}
+use Rattle.layout.specs.Slots.{Slot, Store, size}
+use Rattle.layout.proofs.Slots.{upd-sized}
 use Rattle.layout.specs.Slots.{Slot.W, Slot.U, Slot.NEWW, Slot.NEWU, Slot.F, Slot.NEWF, Slot.Q1, Slot.Q2, Slot.D1, Slot.D2, Slot.PRB, Slot.PRS, Slot.DXU, Slot.GRAD}
 use Rattle.layout.specs.Slots.{Slot.R, Slot.RR, Slot.ZS, Slot.ZZ, Slot.PS, Slot.PP, Slot.XNU, Slot.ATAX, Slot.Z, Slot.NU, Slot.NEWZ}
 use Rattle.bg_solver.specs.Solver.{Work, begun, turned}

@@ -31,7 +31,7 @@ module _ (sh : Sizes) (tm : Terms) (tol : Float) (m : List Float) (M : ℕ) (v :
   abbrev first : Data
   first = held (fresh (sh .p) (tm .lambda)) v
 
-  -- over any budgets of sum 5,100·M at least, calls end as the unbroken fit
+  -- calls whose budgets add up to 5,100·M at least end as the unbroken fit
   pub pauses-change-nothing : (b : ℕ) (bs : List ℕ) → M * 5100 ≤ total (b ∷ bs)
       → calls (call (parts sh tm tol m) M) (b ∷ bs) (start (held (fresh (sh .p) (tm .lambda)) v)) ≡ over (optimized sh tm tol m M v)
   unfolding parts optimized

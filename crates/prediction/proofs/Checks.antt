@@ -19,7 +19,8 @@ use Rattle.refusal.specs.declared.Checked.the-variants.{Fine, Bad}
 use Rattle.refusal.specs.Checks.{askValues, foundAt}
 use Rattle.refusal.proofs.Scanning.{orElse, further, scan-append, scan-from, FirstBad, scan-first}
 use Rattle.refusal.proofs.Asking.{refuted, both-true, ask-fine}
-use Rattle.refusal.proofs.Sizes.{InSize, size-test, size-good, size-of}
+use Rattle.refusal.specs.Sizes.{inSize}
+use Rattle.refusal.proofs.Sizes.{InSize, size-good, size-of}
 use Rattle.prediction.specs.Predict.{valuesOf, checkedOf}
 
 -- ---- 1 and 2
@@ -45,7 +46,7 @@ module _ (n p : ℕ) (x w : List Float) (out : ℕ) where
 module _ (n p : ℕ) (x w : List Float) (b : Float) (out : ℕ) where
   pub bad-size : (InSize n p → ⊥) → checkedOf n p x w b out ≡ Bad Size
   unfolding checkedOf
-  bad-size h = rw (refuted (size-test n p) (λ t. h (size-of n p t)))
+  bad-size h = rw (refuted (inSize n p) (λ t. h (size-of n p t)))
 
   pub bad-length : InSize n p → (Lengths n p x w out → ⊥) → checkedOf n p x w b out ≡ Bad Length
   unfolding checkedOf

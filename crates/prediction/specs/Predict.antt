@@ -2,7 +2,7 @@
 use mathlib.Core.Bool.{_&&_}
 use mathlib.Core.List.{List, [], _∷_, _++_}
 use Prim.Native.Nat.{ℕ, _+_, _*_}
-use lib.Dec.{leb, eqb}
+use lib.Dec.{eqb}
 use lib.ListN.{length}
 use lib.Ieee.{Float}
 use Rattle.numbers.specs.Ops.{_⊕_}
@@ -13,6 +13,7 @@ use Rattle.refusal.specs.declared.Refusal.the-variants.{Size, Length}
 use Rattle.refusal.specs.declared.Checked.{Checked}
 use Rattle.refusal.specs.declared.Checked.the-variants.{Fine, Bad}
 use Rattle.refusal.specs.Checks.{ask, askValues}
+use Rattle.refusal.specs.Sizes.{inSize}
 use Rattle.refusal.specs.Refusal.{numberOf, placeOf}
 use Rattle.prediction.specs.declared.Predicted.{Predicted}
 use Rattle.prediction.specs.declared.Predicted.the-variants.{Done, Refused}
@@ -24,7 +25,7 @@ valuesOf x w b = askValues (firstInfinite 0 (x ++ w ++ b ∷ [])) Fine
 -- 1, 2, then these; `out` is the length of the slice for the predictions
 unfoldable pub checkedOf : ℕ → ℕ → List Float → List Float → Float → ℕ → Checked
 checkedOf n p x w b out =
-    ask (leb 1 n && leb n 4096 && leb 1 p && leb p 64) Size
+    ask (inSize n p) Size
     (ask (eqb (length x) (n * p) && eqb (length w) p && eqb out n) Length
     (valuesOf x w b))
 
@@ -36,16 +37,13 @@ predictedOf n p x w b = tab (λ i. products plus0 (λ j. x ! (i * p + j)) (λ j.
 pub data Outcome : Type 0 where
   outcome : Predicted → List Float → Outcome
 
+-- a refusal leaves `out` as it was
 abbrev pub byCheck : Checked → List Float → List Float → Outcome
 byCheck Fine o new = outcome Done new
 byCheck (Bad r) o new = outcome (Refused r) o
 
 unfoldable pub predictOf : ℕ → ℕ → List Float → List Float → Float → List Float → Outcome
 predictOf n p x w b out = byCheck (checkedOf n p x w b (length out)) out (predictedOf n p x w b)
-
-abbrev pub refusedOf : Checked → Predicted
-refusedOf Fine = Done
-refusedOf (Bad r) = Refused r
 
 -- 01's number and place
 pub data Said : Type 0 where

@@ -7,30 +7,22 @@ use numbers::bits::canonical;
 use refusal::Checked;
 use refusal::Refusal;
 use refusal::at;
+use refusal::in_size;
 ghost use mathlib.Core.Path.{_≡_};
 ghost use Prim.Native.Nat.{_*_, _≤_};
 ghost use lib.ListN.{length};
-ghost use Rattle.prediction.specs.Predict.{Outcome.outcome, checkedOf, valuesOf, predictedOf, refusedOf, predictOf};
+ghost use Rattle.prediction.specs.Predict.{Outcome.outcome, checkedOf, valuesOf, predictedOf, predictOf};
 
 pub enum Predicted {
     Done,
     Refused(Refusal),
 }
 
-// The refusals 1, 2 and 5.
+// The first of the refusals 1, 2 and 5 that holds.
 fn check(n: usize, p: usize, x: &[f64], w: &[f64], b: f64, out: usize) -> Checked
     ensures { λ r. ⌜ r ≡ checkedOf n p (now (x .entry)) (now (w .entry)) b out ⌝ }
 {
-    if n < 1 {
-        return Checked::Bad(Refusal::Size);
-    }
-    if n > 4096 {
-        return Checked::Bad(Refusal::Size);
-    }
-    if p < 1 {
-        return Checked::Bad(Refusal::Size);
-    }
-    if p > 64 {
+    if !in_size(n, p) {
         return Checked::Bad(Refusal::Size);
     }
     if x.len() != n * p {
@@ -45,9 +37,12 @@ fn check(n: usize, p: usize, x: &[f64], w: &[f64], b: f64, out: usize) -> Checke
     values(n, p, x, w, b)
 }
 
-// 5: the matrix, the weights, the intercept.
+// Refusal 5 over matrix, weights and intercept, with its place counted through all of them.
 fn values(n: usize, p: usize, x: &[f64], w: &[f64], b: f64) -> Checked
-    requires { ⌜ (length (now x) ≡ n * p) × ((length (now w) ≡ p) × ((n ≤ 4096) × (p ≤ 64))) ⌝ }
+    requires { ⌜ length (now x) ≡ n * p ⌝ }
+    requires { ⌜ length (now w) ≡ p ⌝ }
+    requires { ⌜ n ≤ 4096 ⌝ }
+    requires { ⌜ p ≤ 64 ⌝ }
     ensures { λ r. ⌜ r ≡ valuesOf (now (x .entry)) (now (w .entry)) b ⌝ }
 {
     let f = first_infinite(x);
@@ -65,7 +60,11 @@ fn values(n: usize, p: usize, x: &[f64], w: &[f64], b: f64) -> Checked
 }
 
 fn rows(n: usize, p: usize, x: &[f64], w: &[f64], b: f64, out: &mut [f64])
-    requires { ⌜ (length (now x) ≡ n * p) × ((length (now w) ≡ p) × ((length (now out) ≡ n) × ((n ≤ 4096) × (p ≤ 64)))) ⌝ }
+    requires { ⌜ length (now x) ≡ n * p ⌝ }
+    requires { ⌜ length (now w) ≡ p ⌝ }
+    requires { ⌜ length (now out) ≡ n ⌝ }
+    requires { ⌜ n ≤ 4096 ⌝ }
+    requires { ⌜ p ≤ 64 ⌝ }
     ensures { λ _. ⌜ now (out .exit) ≡ predictedOf n p (now (x .entry)) (now (w .entry)) b ⌝ }
 {
     for i in 0..n {
@@ -73,23 +72,14 @@ fn rows(n: usize, p: usize, x: &[f64], w: &[f64], b: f64, out: &mut [f64])
     }
 }
 
-// Total, for all input: what is answered and what `out` then holds is `predictOf`.
+// Writes a prediction for each of the n rows; a call that is refused writes nothing. Total, for all input: answer and `out` are `predictOf`.
 pub fn predict(n: usize, p: usize, x: &[f64], w: &[f64], b: f64, out: &mut [f64]) -> Predicted
     ensures { λ r. ⌜ outcome r (now (out .exit)) ≡ predictOf n p (now (x .entry)) (now (w .entry)) b (now (out .entry)) ⌝ }
 {
     let c = check(n, p, x, w, b, out.len());
-    let Checked::Fine = c else {
-        return refused(c);
-    };
+    if let Checked::Bad(r) = c {
+        return Predicted::Refused(r);
+    }
     rows(n, p, x, w, b, out);
     Predicted::Done
-}
-
-fn refused(c: Checked) -> Predicted
-    ensures { λ r. ⌜ r ≡ refusedOf c ⌝ }
-{
-    match c {
-        Checked::Bad(r) => Predicted::Refused(r),
-        Checked::Fine => Predicted::Done,
-    }
 }

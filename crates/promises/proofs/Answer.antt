@@ -1,33 +1,29 @@
 -- What the parts in nested loops answer and leave is smartcore's: coefficients, intercept and counts, or its refusal. Assumes nothing.
 use mathlib.Core.Path.{_≡_, refl, ap, _∙_}
-use mathlib.Core.Bool.{Bool, true, false, cond, _||_}
+use mathlib.Core.Bool.{Bool, true, false, cond}
 use mathlib.Core.List.{List}
 use Prim.Native.Nat.{ℕ, _≤_}
-use borrow.Author.Tests.{eqb-true}
-use lib.Dec.{T, eqb}
 use lib.Ieee.{Float}
-use lib.Ieee.Bits.{is-true}
+use Rattle.refusal.specs.declared.Failure.{Failure}
+use Rattle.refusal.specs.declared.Failure.the-variants.{Search, Tolerance}
 use Rattle.numbers.specs.Ops.{_⊖_, _⊗_, _⊘_}
-use Rattle.arrays.specs.Sums.{plus0, meanOf, productOf}
-use Rattle.arrays.specs.Vectors.{mapOf, zipOf, fillOf}
+use Rattle.arrays.specs.Sums.{meanOf, productOf}
+use Rattle.arrays.specs.Vectors.{mapOf, zipOf}
 use Rattle.settings.specs.declared.Settings.{Settings}
 use Rattle.settings.specs.Settings.{termsOf}
 use Rattle.layout.specs.declared.Sizes.{Sizes}
 use Rattle.layout.specs.Slots.{Slot.W, Slot.CENTRE, Slot.SCALE}
 use Rattle.layout.specs.Need.{sizesOf}
 use Rattle.design.specs.Statistics.{centresOf, scalesOf}
-use Rattle.pause.specs.Parts.{converged as convergedP, limit as limitP, refused, End, end}
+use Rattle.pause.specs.Parts.{converged as convergedP, limit as limitP, failed as failedP, End, end}
 use Rattle.lasso_optimizer.specs.Data.{Data, storeOf}
-use Rattle.stages.specs.declared.Counts.{Counts as CountsE}
-use Rattle.stages.specs.declared.How.the-variants.{Refused}
-use Rattle.stages.specs.Stage.{countsBack, howOf}
-use Rattle.records.specs.Records.{endedOf}
-use Rattle.ending.specs.End.{rescaledOf, weightsOf, interceptOf, gone}
-use Rattle.elastic_net.specs.ElasticNet.{Said, refused as refusedA, endAnswer, endOutcome, ending}
+use Rattle.stages.specs.Stage.{howOf}
+use Rattle.ending.specs.End.{rescaledOf, weightsOf, interceptOf}
+use Rattle.elastic_net.specs.ElasticNet.{endOutcome, ending}
 use Rattle.smartcore.specs.LassoOptimizer.{Fitted, converged, limit, Point}
 use Rattle.smartcore.specs.ElasticNet.{ElasticNet, rescaled, modelOf, fit}
 use Rattle.unbroken_fit.specs.Unbroken.{fitOf, countsOf, pointOf, told}
-use Rattle.unbroken_fit.proofs.Round.{lastIn, Known}
+use Rattle.unbroken_fit.proofs.Round.{lastIn}
 use Rattle.unbroken_fit.proofs.Fit.{lazySizes, eagerSizes, fit-is}
 use Rattle.promises.specs.Outcome.{outcomeOf}
 
@@ -43,27 +39,17 @@ module _ (n p : ℕ) (x y : List Float) (st : Settings) where
   unfolding rescaled
   rescaled-is ce sc w h g = ap (λ (l : List Float). rescaledBy l sc w) h ∙ ap (λ (l : List Float). rescaledBy (centresOf (st .normalise) x n p) l w) g
 
--- a fit's own refusals are answered by their numbers
-known-says : (k : ℕ) (b : Float) (c : CountsE) → T (eqb k 7 || eqb k 8) → endAnswer (Refused k) b c ≡ refusedA k 0
-known-says k b c t = go (eqb k 7) refl where
-  go : (i : Bool) → eqb k 7 ≡ i → endAnswer (Refused k) b c ≡ refusedA k 0
-  go true q = rw (eqb-true k 7 q)
-  go false q =
-      let e : eqb k 8 ≡ true = is-true (eqb k 8) (rw q at t) in
-      rw (eqb-true k 8 e)
-
 -- an end's outcome, where the means and deviations of the columns are in their places
-end-is : (sh : Sizes) (x y : List Float) (st : Settings) (e : List Float) (u : End Data)
-    → lastIn u CENTRE ≡ centresOf (st .normalise) x (sh .n) (sh .p) → lastIn u SCALE ≡ scalesOf (st .normalise) x (sh .n) (sh .p) → Known u
+end-is : (sh : Sizes) (x y : List Float) (st : Settings) (e : List Float) (u : End Failure Data)
+    → lastIn u CENTRE ≡ centresOf (st .normalise) x (sh .n) (sh .p) → lastIn u SCALE ≡ scalesOf (st .normalise) x (sh .n) (sh .p)
     → ending sh (st .normalise) (termsOf st (sh .n) .gamma) y e u ≡ outcomeOf sh e (modelOf (sh .n) (sh .p) x y st (told u))
 unfolding ending endOutcome howOf weightsOf interceptOf rescaledOf told countsOf pointOf outcomeOf
-end-is sh x y st e (end convergedP c d) h g k =
+end-is sh x y st e (end convergedP c d) h g =
     ap (λ (o : ElasticNet). outcomeOf sh e (converged (countsOf c) o)) (rescaled-is (sh .n) (sh .p) x y st (storeOf d CENTRE) (storeOf d SCALE) (storeOf d W) h g)
-end-is sh x y st e (end limitP c d) h g k =
+end-is sh x y st e (end limitP c d) h g =
     ap (λ (o : ElasticNet). outcomeOf sh e (limit (countsOf c) o)) (rescaled-is (sh .n) (sh .p) x y st (storeOf d CENTRE) (storeOf d SCALE) (storeOf d W) h g)
-end-is sh x y st e (end (refused k) c d) h g i =
-    ap (λ (a : Said). record { answer = a; paused = endedOf (countsBack c); weights = fillOf plus0 (sh .p); scratch = gone sh e })
-    (known-says k (interceptOf sh (st .normalise) (termsOf st (sh .n) .gamma) y (storeOf d)) (countsBack c) i)
+end-is sh x y st e (end (failedP Search) c d) h g = refl
+end-is sh x y st e (end (failedP Tolerance) c d) h g = refl
 
 -- one of two sizes
 either : (P : Sizes → Type 0) (b : Bool) (a₁ a₂ : Sizes) → P a₁ → P a₂ → P (cond b a₁ a₂)
@@ -71,12 +57,12 @@ either P true a₁ a₂ q r = q
 either P false a₁ a₂ q r = r
 
 module _ (n p : ℕ) (x y : List Float) (st : Settings) where
-  sized-end : (e : List Float) (u : End Data) → lastIn u CENTRE ≡ centresOf (st .normalise) x n p → lastIn u SCALE ≡ scalesOf (st .normalise) x n p → Known u
+  sized-end : (e : List Float) (u : End Failure Data) → lastIn u CENTRE ≡ centresOf (st .normalise) x n p → lastIn u SCALE ≡ scalesOf (st .normalise) x n p
       → ending (sizesOf n p st) (st .normalise) (termsOf st n .gamma) y e u ≡ outcomeOf (sizesOf n p st) e (modelOf n p x y st (told u))
   unfolding sizesOf
-  sized-end e u h g k =
+  sized-end e u h g =
       either (λ (sh : Sizes). ending sh (st .normalise) (termsOf st n .gamma) y e u ≡ outcomeOf sh e (modelOf n p x y st (told u))) (st .lazy)
-      (lazySizes n p x y st) (eagerSizes n p x y st) (end-is (lazySizes n p x y st) x y st e u h g k) (end-is (eagerSizes n p x y st) x y st e u h g k)
+      (lazySizes n p x y st) (eagerSizes n p x y st) (end-is (lazySizes n p x y st) x y st e u h g) (end-is (eagerSizes n p x y st) x y st e u h g)
 
   -- what the unbroken fit answers and leaves is smartcore's: coefficients, intercept, counts
   pub answers-as-the-rust : (e : List Float) → 1 ≤ n
@@ -84,4 +70,4 @@ module _ (n p : ℕ) (x y : List Float) (st : Settings) where
   unfolding fit
   answers-as-the-rust e some =
       let h = fit-is n p x y st some in
-      sized-end e (fitOf n p x y st) (h .centres) (h .scales) (h .known) ∙ ap (λ (t : Fitted Point). outcomeOf (sizesOf n p st) e (modelOf n p x y st t)) (h .says)
+      sized-end e (fitOf n p x y st) (h .centres) (h .scales) ∙ ap (λ (t : Fitted Point). outcomeOf (sizesOf n p st) e (modelOf n p x y st t)) (h .says)

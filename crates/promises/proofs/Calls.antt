@@ -8,18 +8,19 @@ use lib.Dec.{lit≤}
 use lib.ListN.{length}
 use lib.Ieee.{Float}
 use borrow.Author.Tests.{lt-ltb}
+use Rattle.refusal.specs.declared.Failure.{Failure}
 use Rattle.refusal.specs.declared.Checked.{Checked}
 use Rattle.refusal.specs.declared.Checked.the-variants.{Fine, Bad}
 use Rattle.settings.specs.declared.Settings.{Settings}
 use Rattle.settings.specs.Settings.{termsOf}
 use Rattle.settings.proofs.Laws.{allowed-says}
 use Rattle.layout.specs.declared.Sizes.{Sizes}
-use Rattle.layout.specs.Store.{length-holds}
-use Rattle.layout.specs.Slots.{Slot, Has, size, rest, flatly, start as first-has, vars-of, rest-of}
+use Rattle.layout.specs.Slots.{Slot, Has, size, rest, flatly}
+use Rattle.layout.proofs.Slots.{start as first-has, vars-of, rest-of, length-of}
 use Rattle.layout.specs.Need.{sizesOf}
 use Rattle.bound.proofs.Lambda.{lambda-unsigned}
 use Rattle.pause.specs.Progress.{over, going, Always}
-use Rattle.pause.specs.Parts.{Parts, none, End, end, converged, limit, refused}
+use Rattle.pause.specs.Parts.{Parts, none, End, end, converged, limit, failed}
 use Rattle.pause.specs.Paused.{State, dataOf, Pending, call, start}
 use Rattle.pause.specs.Invariant.{Keeps, Kept, EndKept}
 use Rattle.pause.proofs.Budgets.{call-pends}
@@ -31,10 +32,11 @@ use Rattle.pausing.specs.Kept.{KeptData, SizedData, Proper}
 use Rattle.pausing.proofs.Keeps.{parts-keep}
 use Rattle.pausing.proofs.Sized.{sizes-keep}
 use Rattle.pausing.proofs.Theorems.{first-kept}
-use Rattle.stages.specs.declared.Paused.{Paused}
-use Rattle.stages.specs.declared.Stage.the-variants.{Opening}
-use Rattle.stages.specs.Stage.{pausedOf, pausedAt, howOf}
-use Rattle.stages.proofs.Back.{state-back}
+use Rattle.records.specs.declared.Paused.{Paused}
+use Rattle.records.specs.declared.Stage.the-variants.{Opening}
+use Rattle.records.specs.Record.{pausedOf, pausedAt}
+use Rattle.stages.specs.Stage.{howOf}
+use Rattle.records.proofs.Back.{state-back}
 use Rattle.checks.specs.Checks.{limitsOf}
 use Rattle.checks.proofs.Laws.{accepted, accepted-room, sizes-known}
 use Rattle.records.specs.Records.{possibleOf, possibleAt, countedOf}
@@ -46,11 +48,12 @@ use Rattle.elastic_net.specs.declared.Started.the-variants.{Ready as ReadyS, Re
 use Rattle.elastic_net.specs.ElasticNet.{pending, said, Outcome, outcome, endOutcome, ending, shown}
 use Rattle.unbroken_fit.specs.Unbroken.{fitOf}
 use Rattle.promises.specs.Chain.{Starts, Resumes}
-use Rattle.promises.proofs.Refused.{firstOf, startCheck, resumeCheck, start-refused, start-accepted, resume-accepted}
+use Rattle.promises.specs.Refused.{firstOf, startCheck, resumeCheck}
+use Rattle.promises.proofs.Refused.{start-refused, start-accepted, resume-accepted}
 use Rattle.promises.proofs.Fresh.{start-fresh}
 
 -- the fit's own parts, and the data that it starts from
-abbrev pub partsOf : ℕ → ℕ → List Float → Settings → Parts Data
+abbrev pub partsOf : ℕ → ℕ → List Float → Settings → Parts Failure Data
 partsOf n p x st = parts (sizesOf n p st) (termsOf st n) (st .tol) x
 
 abbrev pub firstData : ℕ → ℕ → List Float → List Float → Settings → Data
@@ -88,11 +91,11 @@ fresh-passes zero d = refl
 fresh-passes (suc M) d = rw (lt-ltb 0 (suc M) (omega arith))
 
 -- an end is not pending
-not-pending : (sh : Sizes) (normalise : Bool) (gamma : Float) (ys e : List Float) (u : End Data) → ending sh normalise gamma ys e u .answer ≡ pending → ⊥
+not-pending : (sh : Sizes) (normalise : Bool) (gamma : Float) (ys e : List Float) (u : End Failure Data) → ending sh normalise gamma ys e u .answer ≡ pending → ⊥
 unfolding ending endOutcome howOf
 not-pending sh normalise gamma ys e (end converged c d) q = let z : _≡_ {A = ℕ} 0 1 = cc in omega arith
 not-pending sh normalise gamma ys e (end limit c d) q = let z : _≡_ {A = ℕ} 0 1 = cc in omega arith
-not-pending sh normalise gamma ys e (end (refused k) c d) q = let z : _≡_ {A = ℕ} 0 1 = cc in omega arith
+not-pending sh normalise gamma ys e (end (failed k) c d) q = let z : _≡_ {A = ℕ} 0 1 = cc in omega arith
 
 module _ (n p : ℕ) (x y : List Float) (st : Settings) where
   abbrev sh : Sizes
@@ -103,7 +106,7 @@ module _ (n p : ℕ) (x y : List Float) (st : Settings) where
 
   -- what a record and a scratch must have for a call to be made on them: they are of the state z, k steps were made, the end u is to come,
   -- e is the scratch's excess, 1 to 4 and 9 do not refuse, and the weights are within their bounds
-  pub record Poised (u : End Data) (e : List Float) (k : ℕ) (z : State Data) (a : Paused) (s : List Float) : Type 0 where
+  pub record Poised (u : End Failure Data) (e : List Float) (k : ℕ) (z : State Data) (a : Paused) (s : List Float) : Type 0 where
     pub is : a ≡ pausedOf z
     pub holds : Has (sizesOf n p st) e (storeOf (dataOf z)) s
     pub leads : Leads (partsOf n p x st) (st .rounds) u k z
@@ -115,7 +118,7 @@ module _ (n p : ℕ) (x y : List Float) (st : Settings) where
   pub parts-within : (room : ℕ) → limitsOf n p (length x) (length y) p st room ≡ Fine → Keeps (KeptData (sizesOf n p st .p)) (partsOf n p x st) (st .rounds)
   parts-within room f = parts-keep sh (termsOf st n) x (st .tol) M (allowed-says st (accepted f .settings) .rounds) (lambda-unsigned st n)
 
-  module _ (u : End Data) (e : List Float) (k : ℕ) (z : State Data) (a : Paused) (s : List Float) (g : Poised u e k z a s)
+  module _ (u : End Failure Data) (e : List Float) (k : ℕ) (z : State Data) (a : Paused) (s : List Float) (g : Poised u e k z a s)
       (w : List Float) (l : length w ≡ p) (b : ℕ) (r : Resumed) (w′ s′ : List Float) (c : Resumes n p x y st a s w b r w′ s′) where
     shows : outcome r w′ s′ ≡ shown (sizesOf n p st) (st .normalise) (termsOf st n .gamma) y e w (call (partsOf n p x st) (st .rounds) b z)
     shows =
@@ -135,7 +138,7 @@ module _ (n p : ℕ) (x y : List Float) (st : Settings) where
     weights-stay = call-kept (partsOf n p x st) M (KeptData (sh .p)) (parts-within (length s) (g .fits)) b z (g .within)
 
     -- a call that ends, ends with u
-    pub ended-with : (t : End Data) → call (partsOf n p x st) (st .rounds) b z ≡ over t
+    pub ended-with : (t : End Failure Data) → call (partsOf n p x st) (st .rounds) b z ≡ over t
         → outcome r w′ s′ ≡ ending (sizesOf n p st) (st .normalise) (termsOf st n .gamma) y e u
     unfolding shown
     ended-with t q =
@@ -159,7 +162,7 @@ module _ (n p : ℕ) (x y : List Float) (st : Settings) where
       poised-next =
           let i : Kept (SizedData sh) t = rw q at sizes-stay in
           let h : Has sh e (storeOf (dataOf t)) s′ = record { is = ap (λ (o : Outcome). o .scratch) leaves; sized = of-data sh _ (dataOf t) (i .holds) } in
-          let long : length s′ ≡ length s = length-holds h ∙ sym (length-holds (g .holds)) in
+          let long : length s′ ≡ length s = length-of sh h ∙ sym (length-of sh (g .holds)) in
           record {
             is = ap (λ (o : Outcome). o .paused) leaves;
             holds = h;
@@ -176,7 +179,7 @@ module _ (n p : ℕ) (x y : List Float) (st : Settings) where
       pub says-pending : said (r .answer) ≡ pending
       says-pending = ap (λ (o : Outcome). o .answer) leaves
 
-    pub says-ended : (t : End Data) → call (partsOf n p x st) (st .rounds) b z ≡ over t → said (r .answer) ≡ pending → ⊥
+    pub says-ended : (t : End Failure Data) → call (partsOf n p x st) (st .rounds) b z ≡ over t → said (r .answer) ≡ pending → ⊥
     says-ended t q h = not-pending sh (st .normalise) (termsOf st n .gamma) y e u (sym (ap (λ (o : Outcome). o .answer) (ended-with t q)) ∙ h)
 
   -- AN ACCEPTED START poises the fit
@@ -204,7 +207,7 @@ module _ (n p : ℕ) (x y : List Float) (st : Settings) where
         let known = sizes-known n p st in
         let whole = proper n p st in
         let m : Has sh (rest sh s) v s₁ = record { is = o .1; sized = start-sized sh (st .normalise) (termsOf st n) x y (whole .all) (whole .stored) } in
-        let long : length s₁ ≡ length s = length-holds m ∙ sym (length-holds (first-has sh s (accepted-room k))) in
+        let long : length s₁ ≡ length s = length-of sh m ∙ sym (length-of sh (first-has sh s (accepted-room k))) in
         let f = start-fresh sh (st .normalise) (termsOf st n) x y in
         let few = allowed-says st (k .settings) .rounds in
         record {

@@ -10,11 +10,12 @@ use Rattle.arrays.specs.Sums.{plus0}
 use Rattle.arrays.specs.Vectors.{fillOf}
 use Rattle.refusal.specs.declared.Checked.the-variants.{Fine}
 use Rattle.settings.specs.declared.Settings.{Settings}
-use Rattle.layout.specs.Slots.{vars, rest, flatly, flat-of, start as first-has}
+use Rattle.layout.specs.Slots.{vars, rest, flatly}
+use Rattle.layout.proofs.Slots.{flat-of, start as first-has}
 use Rattle.layout.specs.Need.{sizesOf}
 use Rattle.pause.specs.Progress.{run, total}
-use Rattle.stages.specs.declared.Paused.{Paused}
-use Rattle.stages.proofs.Back.{paused-back, store-back}
+use Rattle.records.specs.declared.Paused.{Paused}
+use Rattle.records.proofs.Back.{paused-back, store-back}
 use Rattle.checks.specs.Checks.{limitsOf}
 use Rattle.checks.proofs.Laws.{accepted, accepted-room}
 use Rattle.records.specs.Records.{possibleOf, spentAt}
@@ -27,7 +28,8 @@ use Rattle.smartcore.specs.LassoOptimizer.{limit, rounds, optimize}
 use Rattle.smartcore.specs.ElasticNet.{optimizeEager, optimizeLazy, optimizeFit, rescaled, modelOf, fit}
 use Rattle.promises.specs.Chain.{Starts, Resumes, last, Enough}
 use Rattle.promises.specs.Outcome.{outcomeOf}
-use Rattle.promises.proofs.Refused.{resumeCheck, Unchanged, unchanged, resume-accepted}
+use Rattle.promises.specs.Refused.{resumeCheck, Unchanged}
+use Rattle.promises.proofs.Refused.{unchanged, resume-accepted}
 use Rattle.promises.proofs.Calls.{partsOf}
 use Rattle.promises.proofs.Pauses.{pauses-end-as-the-rust}
 

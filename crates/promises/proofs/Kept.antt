@@ -1,18 +1,20 @@
--- What holds at every pause, whatever the budgets, and at the unbroken fit's end: the weights within their bounds, and the counts within theirs. Assumes nothing.
+-- What holds at every pause, whatever the budgets, and at the unbroken fit's end: weights and counts are within their bounds. Assumes nothing.
 use Prim.Native.Nat.{ℕ, _≤_}
 use mathlib.Core.Path.{_≡_, refl, ap, sym, subst, _∙_}
 use mathlib.Core.List.{List}
 use lib.Ieee.{Float}
+use Rattle.refusal.specs.declared.Failure.{Failure}
 use Rattle.arrays.specs.Part.{part}
 use Rattle.settings.specs.declared.Settings.{Settings}
 use Rattle.layout.specs.declared.Sizes.{Sizes}
-use Rattle.layout.specs.Slots.{Store, off, vars-of}
+use Rattle.layout.specs.Slots.{Store, off}
+use Rattle.layout.proofs.Slots.{vars-of}
 use Rattle.layout.specs.Slots.{Slot.W, Slot.U}
 use Rattle.layout.specs.Need.{sizesOf}
 use Rattle.bound.specs.Kept.{Kept as KeptAt}
 use Rattle.bound.proofs.Barrier.{bounded-finite}
 use Rattle.pause.specs.Progress.{total}
-use Rattle.pause.specs.Parts.{converged, limit, refused, made, End, end}
+use Rattle.pause.specs.Parts.{converged, limit, failed as failedP, made, End, end}
 use Rattle.pause.specs.Paused.{State, opening, solving, searching, countsOf, dataOf, start}
 use Rattle.pause.specs.Bounds.{EndWithin as InBounds}
 use Rattle.pause.specs.Invariant.{EndKept}
@@ -22,8 +24,8 @@ use Rattle.lasso_optimizer.specs.declared.Scalars.{Scalars}
 use Rattle.lasso_optimizer.specs.Data.{Data, held, scalarsOf, storeOf}
 use Rattle.lasso_optimizer.specs.Fit.{parts, optimized}
 use Rattle.pausing.specs.Kept.{KeptData}
-use Rattle.stages.specs.declared.Paused.{Paused}
-use Rattle.stages.specs.Stage.{countsBack, pausedOf}
+use Rattle.records.specs.declared.Paused.{Paused}
+use Rattle.records.specs.Record.{countsBack, pausedOf}
 use Rattle.checks.proofs.Laws.{sizes-known, accepted}
 use Rattle.elastic_net.specs.declared.Resumed.{Resumed}
 use Rattle.elastic_net.specs.declared.Started.the-variants.{Ready as ReadyS}
@@ -68,7 +70,7 @@ module _ (n p : ℕ) (x y : List Float) (st : Settings) where
       → Within p t (part s (off (sizesOf n p st) W) p) (part s (off (sizesOf n p st) U) p)
   of-columns t s h = subst (λ (q : ℕ). Within q t (part s (off sh W) q) (part s (off sh U) q)) (sizes-known n p st .columns) h
 
-  module _ (u : End Data) (e : List Float) (k : ℕ) (a : Paused) (s : List Float) (g : Pause n p x y st u e k a s) where
+  module _ (u : End Failure Data) (e : List Float) (k : ℕ) (a : Paused) (s : List Float) (g : Pause n p x y st u e k a s) where
     pause-within : PauseWithin n p st a s
     pause-within =
         let d = dataOf (g .state) in
@@ -109,22 +111,22 @@ module _ (n p : ℕ) (x y : List Float) (st : Settings) where
     data-within k d i =
         subst (λ (m : ℕ). Within m (scalarsOf d .t) (storeOf d W) (storeOf d U)) (sizes-known n p st .columns) (within-of _ _ _ _ _ (of-kept _ _ d i))
 
-    told-within : (u : End Data) → EndKept (KeptData (sizesOf n p st .p)) u → EndWithin p (told u)
+    told-within : (u : End Failure Data) → EndKept (KeptData (sizesOf n p st .p)) u → EndWithin p (told u)
     unfolding EndKept told pointOf
     told-within (end converged c d) k = data-within (c .rounds) d k
     told-within (end limit c d) k = data-within (c .rounds) d k
-    told-within (end (refused i) c d) k = tt
+    told-within (end (failedP i) c d) k = tt
 
     -- WHERE SMARTCORE'S ROUNDS END with weights, before they are rescaled
     pub end-keeps : EndWithin p (optimizeFit n p x y st)
     end-keeps =
         subst (EndWithin p) (as-the-rust n p x y st (accepted (start-fits n p x y st s s₁ a h) .some-rows)) (told-within (fitOf n p x y st) end-kept)
 
-  told-counts : (u : End Data) → InBounds (partsOf n p x st) (st .rounds) u → CountsWithin (st .rounds) (countsIn (told u))
+  told-counts : (u : End Failure Data) → InBounds (partsOf n p x st) (st .rounds) u → CountsWithin (st .rounds) (countsIn (told u))
   unfolding InBounds told countsFrom parts
   told-counts (end converged c d) k = record { openings = k .rounds-in; solver = k .solver-in; trials = k .trials-in }
   told-counts (end limit c d) k = record { openings = k .rounds-in; solver = k .solver-in; trials = k .trials-in }
-  told-counts (end (refused i) c d) k = record { openings = k .rounds-in; solver = k .solver-in; trials = k .trials-in }
+  told-counts (end (failedP i) c d) k = record { openings = k .rounds-in; solver = k .solver-in; trials = k .trials-in }
 
   -- THE COUNTS of a whole fit, of an input that has a row
   pub counts-within : 1 ≤ n → CountsWithin (st .rounds) (countsIn (optimizeFit n p x y st))

@@ -5,7 +5,7 @@ use mathlib.Core.List.{List, _∷_}
 use lib.Ieee.{Float}
 use Rattle.settings.specs.declared.Settings.{Settings}
 use Rattle.settings.specs.Settings.{withPanels, l1Of, l2Of, termsOf}
-use Rattle.stages.specs.declared.Paused.{Paused}
+use Rattle.records.specs.declared.Paused.{Paused}
 use Rattle.records.specs.Records.{endedOf}
 use Rattle.elastic_net.specs.declared.Resumed.{Resumed}
 use Rattle.elastic_net.specs.declared.Started.the-variants.{Ready as ReadyS}

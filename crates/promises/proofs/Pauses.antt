@@ -5,6 +5,7 @@ use native.Mathlib.Omega.{arith}
 use mathlib.Core.Path.{_≡_, refl, ap, _∙_}
 use mathlib.Core.List.{List, [], _∷_, _++_}
 use lib.Ieee.{Float}
+use Rattle.refusal.specs.declared.Failure.{Failure}
 use Rattle.arrays.specs.Sums.{plus0}
 use Rattle.arrays.specs.Vectors.{fillOf}
 use Rattle.settings.specs.declared.Settings.{Settings}
@@ -15,7 +16,7 @@ use Rattle.pause.specs.Progress.{Progress, over, going, total}
 use Rattle.pause.specs.Parts.{End}
 use Rattle.pause.specs.Paused.{State, call, start}
 use Rattle.lasso_optimizer.specs.Data.{Data}
-use Rattle.stages.specs.declared.Paused.{Paused}
+use Rattle.records.specs.declared.Paused.{Paused}
 use Rattle.checks.proofs.Laws.{accepted, sizes-known}
 use Rattle.records.specs.Records.{endedOf}
 use Rattle.ending.specs.End.{gone}
@@ -31,15 +32,15 @@ use Rattle.promises.proofs.Answer.{answers-as-the-rust}
 use Rattle.promises.proofs.Calls.{partsOf, firstData, Poised, ended-with, poised-next, early, says-pending, says-ended, start-fits, start-poised}
 
 -- a state that a record and a scratch are poised in
-pub record Pause (n p : ℕ) (x y : List Float) (st : Settings) (u : End Data) (e : List Float) (k : ℕ) (a : Paused) (s : List Float) : Type 0 where
+pub record Pause (n p : ℕ) (x y : List Float) (st : Settings) (u : End Failure Data) (e : List Float) (k : ℕ) (a : Paused) (s : List Float) : Type 0 where
   pub state : State Data
   pub poised : Poised n p x y st u e k state a s
 
-module _ (n p : ℕ) (x y : List Float) (st : Settings) (u : End Data) (e : List Float) where
+module _ (n p : ℕ) (x y : List Float) (st : Settings) (u : End Failure Data) (e : List Float) where
   abbrev Called : Type 0
-  Called = Progress (End Data) (State Data)
+  Called = Progress (End Failure Data) (State Data)
 
-  abbrev called : ℕ → State Data → Progress (End Data) (State Data)
+  abbrev called : ℕ → State Data → Progress (End Failure Data) (State Data)
   called b z = call (partsOf n p x st) (st .rounds) b z
 
   -- calls from a state that leads to u end with u, once the budgets suffice

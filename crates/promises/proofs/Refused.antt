@@ -16,9 +16,9 @@ use Rattle.layout.specs.Need.{sizesOf}
 use Rattle.pause.specs.Parts.{none}
 use Rattle.pause.specs.Paused.{call}
 use Rattle.lasso_optimizer.specs.Fit.{parts, fresh}
-use Rattle.stages.specs.declared.Paused.{Paused}
-use Rattle.stages.specs.declared.Stage.the-variants.{Opening}
-use Rattle.stages.specs.Stage.{pausedAt, stateOf}
+use Rattle.records.specs.declared.Paused.{Paused}
+use Rattle.records.specs.declared.Stage.the-variants.{Opening}
+use Rattle.records.specs.Record.{pausedAt, stateOf}
 use Rattle.checks.specs.Checks.{limitsOf, startValues}
 use Rattle.records.specs.Records.{possibleOf}
 use Rattle.beginning.specs.Start.{startStore}
@@ -29,21 +29,8 @@ use Rattle.elastic_net.specs.declared.Started.{Started}
 use Rattle.elastic_net.specs.declared.Started.the-variants.{Ready as ReadyS, Refused as RefusedS}
 use Rattle.elastic_net.specs.ElasticNet.{said, Outcome, outcome, byCheck, resumeOf, shown, Begun, byStartCheck, startOf}
 use Rattle.promises.specs.Chain.{Starts, Resumes}
+use Rattle.promises.specs.Refused.{firstOf, startCheck, resumeCheck, Unchanged}
 use Rattle.promises.proofs.Unique.{outcomes-same, begun-same}
-
--- of two checks in a row, the second looked at only where the first is fine
-abbrev pub firstOf : Checked → Checked → Checked
-firstOf Fine k = k
-firstOf (Bad r) k = Bad r
-
--- 1 to 4, then 5 and 6
-abbrev pub startCheck : ℕ → ℕ → List Float → List Float → Settings → List Float → Checked
-startCheck n p x y st s = firstOf (limitsOf n p (length x) (length y) p st (length s)) (startValues x y n p (st .normalise))
-
--- 1 to 4, then 9
-abbrev pub resumeCheck : ℕ → ℕ → List Float → List Float → Settings → Paused → List Float → List Float → Checked
-resumeCheck n p x y st a s w =
-    firstOf (limitsOf n p (length x) (length y) (length w) st (length s)) (cond (possibleOf (st .rounds) a) Fine (Bad Record))
 
 start-when : (j k : Checked) (s : List Float) (t good : Begun) → t ≡ byStartCheck j s (byStartCheck k s good) → (c : Checked) → firstOf j k ≡ c
     → t ≡ byStartCheck c s good
@@ -72,13 +59,6 @@ module _ (n p : ℕ) (x y : List Float) (st : Settings) (s : List Float) (o : St
       begun-same o (ReadyS (pausedAt Opening 0 none (fresh p (termsOf st n .lambda)))) s₁
       (flatly (sizesOf n p st) (startStore (sizesOf n p st) (st .normalise) (termsOf st n) x y) (rest (sizesOf n p st) s))
       (start-when (limitsOf n p (length x) (length y) p st (length s)) (startValues x y n p (st .normalise)) s _ _ h Fine q)
-
--- a call that answers g and leaves record, weights and scratch as they were
-pub record Unchanged (a : Paused) (s w : List Float) (r : Resumed) (w′ s′ : List Float) (g : Answer) : Type 0 where
-  pub answer : r .answer ≡ g
-  pub paused : r .paused ≡ a
-  pub weights : w′ ≡ w
-  pub scratch : s′ ≡ s
 
 pub unchanged : (a : Paused) (s w : List Float) (r : Resumed) (w′ s′ : List Float) (g : Answer)
     → outcome r w′ s′ ≡ record { answer = said g; paused = a; weights = w; scratch = s } → Unchanged a s w r w′ s′ g

@@ -1,16 +1,12 @@
 -- Any two outcomes that a contract permits coincide. Assumes nothing.
 use Prim.Native.Nat.{ℕ}
 use mathlib.Core.Path.{_≡_, refl, ap, sym, _∙_}
-use mathlib.Core.Bool.{cond}
 use mathlib.Core.List.{List}
-use lib.Dec.{eqb}
 use lib.Ieee.{Float}
-use Rattle.refusal.specs.declared.Refusal.{Refusal}
-use Rattle.refusal.specs.declared.Refusal.the-variants.{Size, Length, Setting, Scratch, NotFinite, Constant, Search, Tolerance, Record, NoRounds, Version, SheetLength, Flags, Claim, Pair, TooLarge}
-use Rattle.refusal.specs.Refusal.{numberOf, placeOf}
+use Rattle.refusal.proofs.Numbers.{refusalOf, refusal-back}
 use Rattle.settings.specs.declared.Settings.{Settings}
-use Rattle.stages.specs.declared.Paused.{Paused}
-use Rattle.elastic_net.specs.declared.Way.the-variants.{Converged, Limit}
+use Rattle.records.specs.declared.Paused.{Paused}
+use Rattle.refusal.specs.declared.Way.the-variants.{Converged, Limit}
 use Rattle.elastic_net.specs.declared.Answer.{Answer}
 use Rattle.elastic_net.specs.declared.Answer.the-variants.{Pending, Done, Refused}
 use Rattle.elastic_net.specs.declared.Resumed.{Resumed}
@@ -19,41 +15,7 @@ use Rattle.elastic_net.specs.declared.Started.the-variants.{Ready as ReadyS, Re
 use Rattle.elastic_net.specs.ElasticNet.{Said, pending, converged, limit, refused, said, Outcome, outcome, SaidS, ready, refusedS, saidS, Begun, begun}
 use Rattle.promises.specs.Chain.{Starts, Resumes}
 
--- ---- 01's words name the enum's case: number and place determine the refusal
-
-refusalOf : ℕ → ℕ → Refusal
-refusalOf k i =
-    cond (eqb k 1) Size
-    (cond (eqb k 2) Length
-    (cond (eqb k 3) Setting
-    (cond (eqb k 4) Scratch
-    (cond (eqb k 5) (NotFinite i)
-    (cond (eqb k 6) (Constant i)
-    (cond (eqb k 7) Search
-    (cond (eqb k 8) Tolerance
-    (cond (eqb k 9) Record
-    (cond (eqb k 10) NoRounds
-    (cond (eqb k 11) Version
-    (cond (eqb k 12) SheetLength (cond (eqb k 13) Flags (cond (eqb k 14) (Claim i) (cond (eqb k 15) (Pair i) TooLarge))))))))))))))
-
-refusal-back : (r : Refusal) → refusalOf (numberOf r) (placeOf r) ≡ r
-unfolding refusalOf
-refusal-back Size = refl
-refusal-back Length = refl
-refusal-back Setting = refl
-refusal-back Scratch = refl
-refusal-back (NotFinite i) = refl
-refusal-back (Constant j) = refl
-refusal-back Search = refl
-refusal-back Tolerance = refl
-refusal-back Record = refl
-refusal-back NoRounds = refl
-refusal-back Version = refl
-refusal-back SheetLength = refl
-refusal-back Flags = refl
-refusal-back (Claim i) = refl
-refusal-back (Pair i) = refl
-refusal-back TooLarge = refl
+-- ---- 01's words name the enum's case
 
 unsaid : Said → Answer
 unsaid pending = Pending

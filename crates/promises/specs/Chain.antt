@@ -6,7 +6,7 @@ use lib.ListN.{length}
 use lib.Ieee.{Float}
 use Rattle.settings.specs.declared.Settings.{Settings}
 use Rattle.pause.specs.Progress.{total}
-use Rattle.stages.specs.declared.Paused.{Paused}
+use Rattle.records.specs.declared.Paused.{Paused}
 use Rattle.elastic_net.specs.declared.Resumed.{Resumed}
 use Rattle.elastic_net.specs.declared.Started.{Started}
 use Rattle.elastic_net.specs.ElasticNet.{said, pending, outcome, resumeOf, begun, startOf}

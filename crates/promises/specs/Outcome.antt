@@ -5,7 +5,7 @@ use lib.Ieee.{Float}
 use Rattle.arrays.specs.Sums.{plus0}
 use Rattle.arrays.specs.Vectors.{fillOf}
 use Rattle.layout.specs.declared.Sizes.{Sizes}
-use Rattle.stages.specs.declared.Counts.{Counts as CountsE}
+use Rattle.records.specs.declared.Counts.{Counts as CountsE}
 use Rattle.records.specs.Records.{endedOf}
 use Rattle.ending.specs.End.{gone}
 use Rattle.elastic_net.specs.ElasticNet.{Said, converged as convergedA, limit as limitA, refused as refusedA, Outcome}
@@ -21,6 +21,7 @@ countsIn (failed k c) = c
 abbrev pub answered : Counts → CountsE
 answered c = record { rounds = record { 0 = c .openings }; solver = record { 0 = c .solver }; trials = record { 0 = c .trials } }
 
+-- a fit that fails answers as a refusal, with place 0
 abbrev pub answerOf : Fitted ElasticNet → Said
 answerOf (converged c o) = convergedA (o .intercept) (answered c)
 answerOf (limit c o) = limitA (o .intercept) (answered c)

@@ -15,7 +15,7 @@ use Rattle.layout.specs.Slots.{Slot.W, Slot.U}
 use Rattle.layout.specs.Need.{sizesOf}
 use Rattle.bound.specs.Kept.{Inside}
 use Rattle.smartcore.specs.LassoOptimizer.{Counts, Fitted, converged, limit, failed, Point}
-use Rattle.stages.specs.declared.Paused.{Paused}
+use Rattle.records.specs.declared.Paused.{Paused}
 use Rattle.records.specs.Records.{possibleOf}
 
 -- each of p weights is finite and strictly within its finite bound, and t is finite and positive

@@ -11,11 +11,11 @@ use Rattle.pause.specs.Paused.{State, opening, solving, searching, Pending, nex
 use Rattle.pause.specs.Bounds.{Within, Counted}
 use Rattle.layout.specs.Slots.{Store}
 use Rattle.lasso_optimizer.specs.Data.{Data, held}
-use Rattle.stages.specs.declared.Counts.{Counts as CountsE}
-use Rattle.stages.specs.declared.Paused.{Paused}
-use Rattle.stages.specs.declared.Stage.{Stage}
-use Rattle.stages.specs.declared.Stage.the-variants.{Opening, Solving, Searching, Ended}
-use Rattle.stages.specs.Stage.{countsOf, countsBack, stateAt, stateOf, pausedOf, SaneAt, Sane}
+use Rattle.records.specs.declared.Counts.{Counts as CountsE}
+use Rattle.records.specs.declared.Paused.{Paused}
+use Rattle.records.specs.declared.Stage.{Stage}
+use Rattle.records.specs.declared.Stage.the-variants.{Opening, Solving, Searching, Ended}
+use Rattle.records.specs.Record.{countsOf, countsBack, stateAt, stateOf, pausedOf, SaneAt, Sane}
 use Rattle.records.specs.Records.{countedOf, possibleAt, possibleOf, spentOf, spentAt}
 
 -- ---- the counts
@@ -73,7 +73,7 @@ spent-at (Solving k) M r o = absurd (false≢true o)
 spent-at (Searching j) M r o = absurd (false≢true o)
 spent-at Ended M r o = absurd (false≢true o)
 
-module _ (F : Parts Data) (M r : ℕ) (c : Counts) (b : ℕ) (d : Data) where
+module _ {X : Type 0} (F : Parts X Data) (M r : ℕ) (c : Counts) (b : ℕ) (d : Data) where
   run-at : (g : Stage) → SaneAt g M r c → call F M b (stateAt g r c d) ≡ run (step F M) b (stateAt g r c d)
   unfolding call settle nextRound then
   run-at Opening s = rw (lt-ltb r M (s .inside))
@@ -88,19 +88,19 @@ module _ (M : ℕ) (a : Paused) (passes : possibleOf M a ≡ true) where
   possible-sane o = sane-at (a .stage) M (a .round) (a .counts) passes o
 
   -- and goes on by its steps
-  pub unspent-run : (F : Parts Data) → spentAt M a ≡ false → (b : ℕ) (v : Store) → call F M b (stateOf a v) ≡ run (step F M) b (stateOf a v)
+  pub unspent-run : {X : Type 0} (F : Parts X Data) → spentAt M a ≡ false → (b : ℕ) (v : Store) → call F M b (stateOf a v) ≡ run (step F M) b (stateOf a v)
   unfolding stateOf Sane
   unspent-run F o b v = run-at F M (a .round) (countsOf (a .counts)) b (held (a .scalars) v) (a .stage) (possible-sane o)
 
 -- a spent one ends as the limit, before any step
-pub spent-over : (M : ℕ) (a : Paused) (F : Parts Data) → spentAt M a ≡ true → (b : ℕ) (v : Store)
+pub spent-over : {X : Type 0} (M : ℕ) (a : Paused) (F : Parts X Data) → spentAt M a ≡ true → (b : ℕ) (v : Store)
     → call F M b (stateOf a v) ≡ over (end limit (countsOf (a .counts)) (held (a .scalars) v))
 unfolding spentAt stateOf call settle nextRound then
 spent-over M a F o b v = let p = spent-at (a .stage) M (a .round) o in rw (p .0, le-ltb (a .round) M (p .1))
 
 -- ---- the machine's own records, where its parts have the fit's limits
 
-module _ (F : Parts Data) (solves : F .solves ≡ 4999) (trials : F .trials ≡ 100) where
+module _ {X : Type 0} (F : Parts X Data) (solves : F .solves ≡ 4999) (trials : F .trials ≡ 100) where
   pub own-possible : (M n : ℕ) (x : State Data) → Counted F M n x → Pending M x → possibleOf M (pausedOf x) ≡ true
   unfolding Within Pending possibleOf possibleAt pausedOf
   own-possible M n (opening r c d) h p =

@@ -1,12 +1,12 @@
--- Which records a call may go on with: 01's refusal 9. Definitions only.
+-- Which records a call may continue: 01's refusal 9. Definitions only.
 use mathlib.Core.Bool.{Bool, false, _&&_, _||_}
 use Prim.Native.Nat.{ℕ, _+_, _*_}
 use lib.Dec.{ltb, leb, eqb}
 use Rattle.arrays.specs.Sums.{plus0}
-use Rattle.stages.specs.declared.Counts.{Counts}
-use Rattle.stages.specs.declared.Paused.{Paused}
-use Rattle.stages.specs.declared.Stage.{Stage}
-use Rattle.stages.specs.declared.Stage.the-variants.{Opening, Solving, Searching, Ended}
+use Rattle.records.specs.declared.Counts.{Counts}
+use Rattle.records.specs.declared.Paused.{Paused}
+use Rattle.records.specs.declared.Stage.{Stage}
+use Rattle.records.specs.declared.Stage.the-variants.{Opening, Solving, Searching, Ended}
 
 -- the Newton count is the rounds opened, and the other counts are at most 4,999 and 100 times that
 unfoldable pub countedOf : ℕ → Counts → Bool

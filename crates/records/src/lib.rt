@@ -1,20 +1,42 @@
-// Paused records that a call is given: refusal 9, and records that it hands back.
+// The paused record: its types, the records that a call hands back, and which of those that it is given it may continue.
 use lasso_optimizer::Scalars;
 use numbers::bits::canonical;
-use stages::Counts;
-use stages::Paused;
-use stages::Rounds;
-use stages::SolverRounds;
-use stages::Stage;
-use stages::Trials;
 ghost use mathlib.Core.Path.{_≡_};
 ghost use Prim.Native.Nat.{_≤_};
 ghost use Rattle.pause.specs.Parts.{none};
-ghost use Rattle.stages.specs.Stage.{countsBack, pausedAt};
-ghost use Rattle.stages.specs.declared.Stage.the-variants.{Opening};
+ghost use Rattle.records.specs.Record.{countsBack, pausedAt};
+ghost use Rattle.records.specs.declared.Stage.the-variants.{Opening};
 ghost use Rattle.records.specs.Records.{countedOf, possibleOf, spentAt, endedOf};
 
-// The counts are possible where so many rounds were opened.
+// Rounds opened, solver rounds made, trials made: each a type of its own, so that none stands in for another.
+pub struct Rounds(pub u64);
+
+pub struct SolverRounds(pub u64);
+
+pub struct Trials(pub u64);
+
+pub struct Counts {
+    pub rounds: Rounds,
+    pub solver: SolverRounds,
+    pub trials: Trials,
+}
+
+// What is next: a round is opened; the solver's k-th round, from 1, is made; a trial is made, after j others. Or nothing, since the fit has ended.
+pub enum Stage {
+    Opening,
+    Solving(u64),
+    Searching(u64),
+    Ended,
+}
+
+pub struct Paused {
+    pub stage: Stage,
+    pub round: u64,
+    pub counts: Counts,
+    pub scalars: Scalars,
+}
+
+// Whether the counts are possible with so many rounds opened: at most 4,999 solver rounds and 100 trials to each.
 fn counted(opened: u64, c: Counts) -> bool
     requires { ⌜ opened ≤ 1000 ⌝ }
     ensures { λ r. ⌜ r ≡ countedOf opened c ⌝ }
@@ -31,7 +53,8 @@ fn counted(opened: u64, c: Counts) -> bool
     100 * opened >= t.0
 }
 
-// Whether a call may go on with the record; refusal 9 where not.
+// Whether a call may continue the record, which it refuses with 9 where not. Never one that has ended. With a limit of 0 no round is below it, and only a
+// record at its start is possible.
 pub fn possible(limit: u64, rec: Paused) -> bool
     requires { ⌜ limit ≤ 1000 ⌝ }
     ensures { λ r. ⌜ r ≡ possibleOf limit rec ⌝ }
@@ -124,6 +147,7 @@ pub fn ended(c: Counts) -> Paused
     }
 }
 
+// The record of a fit that was just started: round 0 is to be opened.
 pub fn first(a: Scalars) -> Paused
     ensures { λ r. ⌜ r ≡ pausedAt Opening 0 none a ⌝ }
 {

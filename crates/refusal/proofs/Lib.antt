@@ -1,3 +1,4 @@
 pub mod Scanning
 pub mod Asking
 pub mod Sizes
+pub mod Numbers

@@ -1,9 +1,9 @@
 -- 1: the ranges of rows and columns, as what holds and as the test of it. Assumes nothing.
 use mathlib.Core.Path.{_≡_}
-use mathlib.Core.Bool.{Bool, true, _&&_}
+use mathlib.Core.Bool.{true}
 use Prim.Native.Nat.{ℕ, _≤_}
-use lib.Dec.{leb}
 use borrow.Author.Tests.{leb-true, le-leb}
+use Rattle.refusal.specs.Sizes.{inSize}
 use Rattle.refusal.proofs.Asking.{known-by, both-true}
 
 pub record InSize (n p : ℕ) : Type 0 where
@@ -13,13 +13,10 @@ pub record InSize (n p : ℕ) : Type 0 where
   pub columns : p ≤ 64
 
 module _ (n p : ℕ) where
-  abbrev pub size-test : Bool
-  size-test = leb 1 n && leb n 4096 && leb 1 p && leb p 64
-
-  pub size-good : InSize n p → size-test ≡ true
+  pub size-good : InSize n p → inSize n p ≡ true
   size-good z = rw (le-leb 1 n (z .some-rows), le-leb n 4096 (z .rows), le-leb 1 p (z .some-columns), le-leb p 64 (z .columns))
 
-  pub size-of : size-test ≡ true → InSize n p
+  pub size-of : inSize n p ≡ true → InSize n p
   size-of h =
       let t₁ = both-true _ _ h in
       let t₂ = both-true _ _ (t₁ .0) in

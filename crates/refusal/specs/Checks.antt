@@ -13,6 +13,7 @@ abbrev pub ask : Bool → Refusal → Checked → Checked
 ask true r rest = rest
 ask false r rest = Bad r
 
+-- a value that is not finite is refusal 5, with its place
 abbrev pub askValues : Found → Checked → Checked
 askValues Clean rest = rest
 askValues (At i) rest = Bad (NotFinite i)
@@ -22,6 +23,7 @@ abbrev pub foundAt : Found → ℕ → Checked
 foundAt Clean from = Fine
 foundAt (At i) from = Bad (NotFinite (from + i))
 
+-- so that the place does not wrap
 abbrev pub Near : Found → ℕ → Type 0
 Near Clean from = from ≤ 1048576
 Near (At i) from = (from ≤ 1048576) × (i < 2 ^ 60)

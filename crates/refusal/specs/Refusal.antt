@@ -1,6 +1,8 @@
 -- The number and the place of each refusal. Definitions only.
 use Prim.Native.Nat.{ℕ}
 use Rattle.refusal.specs.declared.Refusal.{Refusal}
+use Rattle.refusal.specs.declared.Failure.{Failure}
+use Rattle.refusal.specs.declared.Failure.the-variants.{Search as SearchF, Tolerance as ToleranceF}
 use Rattle.refusal.specs.declared.Refusal.the-variants.{Size, Length, Setting, Scratch, NotFinite, Constant, Search, Tolerance, Record, NoRounds, Version, SheetLength, Flags, Claim, Pair, TooLarge}
 
 abbrev pub numberOf : Refusal → ℕ
@@ -39,3 +41,8 @@ placeOf Flags = 0
 placeOf (Claim i) = i
 placeOf (Pair i) = i
 placeOf TooLarge = 0
+
+-- a fit that fails is refused
+abbrev pub refusedBy : Failure → Refusal
+refusedBy SearchF = Search
+refusedBy ToleranceF = Tolerance

@@ -1,8 +1,9 @@
-// Why an input or a fit is refused, in the order of the numbers that the refusals have.
+// How a call ends: why an input or a fit is refused, in the order of the numbers that the refusals have; how a fit is done, and how it fails.
 use arrays::scan::Found;
 ghost use mathlib.Core.Path.{_≡_};
 ghost use Rattle.refusal.specs.Checks.{foundAt, Near};
-ghost use Rattle.refusal.specs.Refusal.{numberOf, placeOf};
+ghost use Rattle.refusal.specs.Refusal.{numberOf, placeOf, refusedBy};
+ghost use Rattle.refusal.specs.Sizes.{inSize};
 
 pub enum Refusal {
     Size,
@@ -23,12 +24,25 @@ pub enum Refusal {
     TooLarge,
 }
 
+// How a fit is done: with converged weights, or after as many rounds as it may make.
+pub enum Way {
+    Converged,
+    Limit,
+}
+
+// Why a fit fails that was begun: a round's search found no step, or its solver's tolerance is at or below 0.
+pub enum Failure {
+    Search,
+    Tolerance,
+}
+
 // What a check of an input answers.
 pub enum Checked {
     Fine,
     Bad(Refusal),
 }
 
+// Its number, from 1 to 16, which callers in C and Rust see.
 pub fn number(r: Refusal) -> u64
     ensures { λ n. ⌜ n ≡ numberOf r ⌝ }
 {
@@ -52,6 +66,7 @@ pub fn number(r: Refusal) -> u64
     }
 }
 
+// Where the input is at fault: the index of a value, a column or a row; 0 for a refusal that has no place.
 pub fn place(r: Refusal) -> usize
     ensures { λ n. ⌜ n ≡ placeOf r ⌝ }
 {
@@ -75,7 +90,33 @@ pub fn place(r: Refusal) -> usize
     }
 }
 
-// The place of a value that stands `from` places further in the order of the slices.
+// The refusal that a failed fit ends with.
+pub fn refused_by(f: Failure) -> Refusal
+    ensures { λ r. ⌜ r ≡ refusedBy f ⌝ }
+{
+    match f {
+        Failure::Search => Refusal::Search,
+        Failure::Tolerance => Refusal::Tolerance,
+    }
+}
+
+// The ranges of rows and columns, 1 to 4,096 and 1 to 64, which refusal 1 asks of every call.
+pub fn in_size(n: usize, p: usize) -> bool
+    ensures { λ r. ⌜ r ≡ inSize n p ⌝ }
+{
+    if n < 1 {
+        return false;
+    }
+    if n > 4096 {
+        return false;
+    }
+    if p < 1 {
+        return false;
+    }
+    p <= 64
+}
+
+// A scan's find as refusal 5, its place counted from `from`, since several slices count as one. Fine where the scan was clean.
 pub fn at(f: Found, from: usize) -> Checked
     requires { ⌜ Near f from ⌝ }
     ensures { λ r. ⌜ r ≡ foundAt f from ⌝ }

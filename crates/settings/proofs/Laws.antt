@@ -1,4 +1,4 @@
--- What allowed settings are known by: 01's ranges, one by one, and nothing else. Assumes nothing.
+-- Settings are allowed just where each is in 01's range. Assumes nothing.
 use mathlib.Core.Path.{_≡_, refl, subst}
 use mathlib.Core.Logic.{_⊎_, inl, inr}
 use mathlib.Core.Bool.{Bool, true, false, _&&_, cond}

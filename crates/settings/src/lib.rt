@@ -26,7 +26,7 @@ pub struct Terms {
     pub lambda: f64,
 }
 
-// Refusal 3 is given where this is false.
+// Whether each setting is in its range; a NaN never is. Refusal 3 where not.
 pub fn allowed(st: Settings) -> bool
     ensures { λ r. ⌜ r ≡ allowedOf st ⌝ }
 {
@@ -52,6 +52,7 @@ fn within(x: f64, most: f64) -> bool
     if x >= 0.0 { x <= most } else { false }
 }
 
+// R and C have ranges only where the fit is lazy.
 fn panels(st: Settings) -> bool
     ensures { λ r. ⌜ r ≡ panelsOf st ⌝ }
 {
@@ -70,12 +71,14 @@ fn panels(st: Settings) -> bool
     st.panel_cols <= 32
 }
 
+// What scales the design and then the weights.
 pub fn gamma(l2: f64) -> f64
     ensures { λ r. ⌜ r ≡ gammaOf l2 ⌝ }
 {
     1.0 / root(1.0 + l2)
 }
 
+// What a fit of n rows takes from its settings. lambda is never below epsilon, as in the Rust.
 pub fn terms_of(st: Settings, n: usize) -> Terms
     requires { ⌜ n < 2 ^ 32 ⌝ }
     ensures { λ r. ⌜ r ≡ termsOf st n ⌝ }

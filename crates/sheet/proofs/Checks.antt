@@ -1,5 +1,5 @@
 -- The refusals of a sheet as what holds and not as tests, and each test by them. Assumes nothing.
-use mathlib.Core.Path.{_≡_, refl, _∙_}
+use mathlib.Core.Path.{_≡_, refl, sym, _∙_}
 use mathlib.Core.Logic.{_⊎_, inl, inr}
 use mathlib.Core.Bool.{Bool, true, false, _&&_, _||_}
 use mathlib.Core.List.{List}
@@ -7,16 +7,19 @@ use Prim.Native.Nat.{ℕ, zero, suc, _+_, _-_, _*_, _≤_, _<_}
 use native.Mathlib.Numerals.{add-one}
 use native.Mathlib.Decide.{decLt}
 use native.Mathlib.Omega.{arith}
-use lib.Dec.{leb, ltb, eqb}
-use lib.ListN.{length, getD}
+use lib.Dec.{ltb, eqb}
+use lib.ListN.{length, getD, length-drop}
 use borrow.Author.Tests.{ltb-true, leb-true, eqb-true, lt-ltb, le-leb, lt-leb, eq-eqb, ne-eqb}
 use Rattle.refusal.specs.declared.Refusal.{Refusal}
 use Rattle.refusal.specs.declared.Refusal.the-variants.{Size, Length, Version, SheetLength, Flags, Claim, Pair}
+use Rattle.refusal.specs.declared.Checked.{Checked}
 use Rattle.refusal.specs.declared.Checked.the-variants.{Fine, Bad}
+use Rattle.refusal.specs.Checks.{ask}
 use Rattle.refusal.proofs.Asking.{refuted, known-by, both-true}
-use Rattle.refusal.proofs.Sizes.{InSize, size-test, size-good, size-of}
+use Rattle.refusal.specs.Sizes.{inSize}
+use Rattle.refusal.proofs.Sizes.{InSize, size-good, size-of}
 use Rattle.sheet.specs.Bytes.{four-bytes}
-use Rattle.sheet.specs.Sheet.{row-bytes, nOf, pOf, flagsOf, lengthFits, headerCheck, sourceOf, targetOf, above, rises, rowsFrom, roomCheck}
+use Rattle.sheet.specs.Sheet.{row-bytes, row-at, nOf, pOf, flagsOf, bodyCheck, sourceOf, targetOf, above, rises, rowsFrom, roomCheck, bodyOf, headerCheck}
 use Rattle.sheet.proofs.Rows.{claims, row-passed, row-refused}
 
 -- ---- the header
@@ -24,34 +27,42 @@ use Rattle.sheet.proofs.Rows.{claims, row-passed, row-refused}
 -- 12: the length field is the number of the bytes after it, and 33 + n(12 + 8p). Then n and p are there.
 pub record Measured (b : List ℕ) : Type 0 where
   pub rest : four-bytes b 1 + 5 ≡ length b
-  pub formula : four-bytes b 1 ≡ 33 + nOf b * row-bytes (pOf b)
+  pub formula : four-bytes b 1 ≡ 33 + nOf (bodyOf b) * row-bytes (pOf (bodyOf b))
 
 -- none of 11 to 13
 pub record Headed (b : List ℕ) : Type 0 where
   pub begun : 5 ≤ length b
   pub version : getD b 0 0 ≡ 1
   pub measured : Measured b
-  pub flags : flagsOf b ≤ 3
+  pub flags : flagsOf (bodyOf b) ≤ 3
+
+-- both tests of the length have one refusal
+length-refused : (s t : Bool) (rest : Checked) → (s && t ≡ true → ⊥) → ask s SheetLength (ask t SheetLength rest) ≡ Bad SheetLength
+length-refused false t rest h = refl
+length-refused true false rest h = refl
+length-refused true true rest h = absurd (h refl)
 
 module _ (b : List ℕ) where
-  measured-of : lengthFits b ≡ true → Measured b
-  unfolding lengthFits
-  measured-of h =
-      let t = both-true _ _ h in
-      let u = both-true (leb 38 (length b)) _ (t .0) in
-      let rest : four-bytes b 1 + 5 ≡ length b = eqb-true _ _ (u .1) in
-      let rows : length b ≡ 38 + nOf b * row-bytes (pOf b) = eqb-true _ _ (t .1) in
-      record { rest = rest; formula = omega arith }
+  abbrev field-test : Bool
+  field-test = eqb (four-bytes b 1) (length (bodyOf b))
 
-  measured-good : Measured b → lengthFits b ≡ true
-  unfolding lengthFits
+  abbrev rows-test : Bool
+  rows-test = eqb (length (bodyOf b)) (row-at (pOf (bodyOf b)) (nOf (bodyOf b)))
+
+  measured-of : field-test && rows-test ≡ true → Measured b
+  measured-of h =
+      let t = both-true field-test rows-test h in
+      let field : four-bytes b 1 ≡ length (bodyOf b) = eqb-true _ _ (t .0) in
+      let rows : length (bodyOf b) ≡ row-at (pOf (bodyOf b)) (nOf (bodyOf b)) = eqb-true _ _ (t .1) in
+      record { rest = omega (arith, length-drop 5 b); formula = omega arith }
+
+  measured-good : Measured b → (field-test ≡ true) × (rows-test ≡ true)
   measured-good m =
-      let f = m .formula in
-      let rows : length b ≡ 38 + nOf b * row-bytes (pOf b) = omega (arith, m .rest) in
-      rw (le-leb 38 (length b) (omega arith), eq-eqb _ _ (m .rest), eq-eqb _ _ rows)
+      let field : four-bytes b 1 ≡ length (bodyOf b) = omega (arith, m .rest, length-drop 5 b) in
+      (eq-eqb _ _ field, eq-eqb _ _ (sym field ∙ m .formula))
 
   pub measured-known : Dec (Measured b)
-  measured-known = known-by measured-of measured-good
+  measured-known = known-by measured-of (λ m. rw (measured-good m .0, measured-good m .1))
 
   module _ (begun : 5 ≤ length b) where
     pub bad-version : (getD b 0 0 ≡ 1 → ⊥) → headerCheck b ≡ Bad Version
@@ -60,23 +71,26 @@ module _ (b : List ℕ) where
 
     module _ (version : getD b 0 0 ≡ 1) where
       pub bad-measure : (Measured b → ⊥) → headerCheck b ≡ Bad SheetLength
-      unfolding headerCheck
-      bad-measure h = rw (le-leb 5 (length b) begun, eq-eqb _ _ version, refuted (lengthFits b) (λ t. h (measured-of t)))
+      unfolding headerCheck bodyCheck
+      bad-measure h = rw (le-leb 5 (length b) begun, eq-eqb _ _ version) (length-refused field-test rows-test _ (λ t. h (measured-of t)))
 
-      pub bad-flags : Measured b → 3 < flagsOf b → headerCheck b ≡ Bad Flags
-      unfolding headerCheck
-      bad-flags m h = rw (le-leb 5 (length b) begun, eq-eqb _ _ version, measured-good m, lt-leb (flagsOf b) 3 h)
+      pub bad-flags : Measured b → 3 < flagsOf (bodyOf b) → headerCheck b ≡ Bad Flags
+      unfolding headerCheck bodyCheck
+      bad-flags m h =
+          let t = measured-good m in
+          rw (le-leb 5 (length b) begun, eq-eqb _ _ version, t .0, t .1, lt-leb (flagsOf (bodyOf b)) 3 h)
 
   pub bad-start : length b < 5 → headerCheck b ≡ Bad SheetLength
   unfolding headerCheck
   bad-start h = rw (lt-leb 5 (length b) h)
 
   pub good-header : Headed b → headerCheck b ≡ Fine
-  unfolding headerCheck
+  unfolding headerCheck bodyCheck
   good-header h =
-      rw (le-leb 5 (length b) (h .begun), eq-eqb _ _ (h .version), measured-good (h .measured), le-leb (flagsOf b) 3 (h .flags))
+      let t = measured-good (h .measured) in
+      rw (le-leb 5 (length b) (h .begun), eq-eqb _ _ (h .version), t .0, t .1, le-leb (flagsOf (bodyOf b)) 3 (h .flags))
 
--- ---- the rows
+-- ---- the rows of a body
 
 -- 14: both claim numbers of row i are from 1 to 999
 pub record Claims (b : List ℕ) (i : ℕ) : Type 0 where
@@ -222,7 +236,7 @@ module _ (n p xl yl : ℕ) where
 
   pub bad-size : (InSize n p → ⊥) → roomCheck n p xl yl ≡ Bad Size
   unfolding roomCheck
-  bad-size h = rw (refuted (size-test n p) (λ t. h (size-of n p t)))
+  bad-size h = rw (refuted (inSize n p) (λ t. h (size-of n p t)))
 
   pub bad-length : InSize n p → (Lengths n p xl yl → ⊥) → roomCheck n p xl yl ≡ Bad Length
   unfolding roomCheck

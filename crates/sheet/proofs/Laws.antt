@@ -1,5 +1,5 @@
--- What the contracts of `read_header` and `read_sheet` say: which refusal for which sheet, that the outcome is one, that a refusal writes nothing, and that a sheet
--- with no fault is read. Assumes nothing.
+-- What the contracts of `read_header` and `read_sheet` say: which refusal for which sheet, that the outcome is one, that a refusal writes nothing,
+-- and that a sheet with no fault is read. Assumes nothing.
 use mathlib.Core.Path.{_≡_, refl, sym, ap, _∙_}
 use mathlib.Core.Logic.{_⊎_, inl, inr}
 use mathlib.Core.List.{List}
@@ -16,10 +16,19 @@ use Rattle.refusal.proofs.Sizes.{InSize, size-known}
 use Rattle.sheet.specs.declared.Header.{Header}
 use Rattle.sheet.specs.declared.Read.{Read}
 use Rattle.sheet.specs.declared.Read.the-variants.{Sheet, Refused}
-use Rattle.sheet.specs.Sheet.{nOf, pOf, flagsOf, headerCheck, rowsFrom, roomCheck, headerOf, matrixOf, targetsOf, headerRead, Outcome, Outcome.outcome, byCheck, sheetOf, Said.refused, said}
+use Rattle.sheet.specs.Sheet.{nOf, pOf, flagsOf, rowsFrom, roomCheck, headerOf, matrixOf, targetsOf, bodyRead}
+use Rattle.sheet.specs.Sheet.{bodyOf, headerCheck, headerRead, Outcome, Outcome.outcome, byCheck, sheetOf, Said.refused, said}
 use Rattle.sheet.proofs.Checks.{Measured, Headed, Claims, Rises, RowsFine, BadRow, Lengths, measured-known, rows-known, lengths-known}
-use Rattle.sheet.proofs.Checks.{bad-start, bad-version, bad-measure, bad-flags, good-header, bad-claim, bad-pair, good-rows, bad-size, bad-length, good-room}
-use Rattle.sheet.proofs.Outcomes.{header-refused, bad-header, bad-row, bad-room, reads-all}
+use Rattle.sheet.proofs.Checks.{bad-start, bad-version, bad-measure, bad-flags, good-header}
+use Rattle.sheet.proofs.Checks.{bad-claim, bad-pair, good-rows, bad-size, bad-length, good-room}
+use Rattle.sheet.proofs.Outcomes.{header-refused, sheet-refused, sheet-read, bad-row, bad-room, reads-all}
+
+-- n and p of a sheet
+abbrev pub rows-in : List ℕ → ℕ
+rows-in b = nOf (bodyOf b)
+
+abbrev pub columns-in : List ℕ → ℕ
+columns-in b = pOf (bodyOf b)
 
 -- the contract of `read_sheet`, for all input: it answers r, and leaves x′ and y′
 abbrev pub Reads : List ℕ → ℕ → ℕ → List Float → List Float → Read → List Float → List Float → Type 0
@@ -51,7 +60,7 @@ module _ (b : List ℕ) where
     short : length b < 5 → HeaderRefusal 12 0
     version : 5 ≤ length b → (getD b 0 0 ≡ 1 → ⊥) → HeaderRefusal 11 0
     measure : 5 ≤ length b → getD b 0 0 ≡ 1 → (Measured b → ⊥) → HeaderRefusal 12 0
-    flags : 5 ≤ length b → getD b 0 0 ≡ 1 → Measured b → 3 < flagsOf b → HeaderRefusal 13 0
+    flags : 5 ≤ length b → getD b 0 0 ≡ 1 → Measured b → 3 < flagsOf (bodyOf b) → HeaderRefusal 13 0
 
   header-told : {k i : ℕ} → HeaderRefusal k i → (q : Refusal) × (headerCheck b ≡ Bad q) × (said (Refused q) ≡ refused k i)
   header-told (short h) = (SheetLength, bad-start b h, refl)
@@ -63,7 +72,7 @@ module _ (b : List ℕ) where
   pub first-header-refusal : (R C : ℕ) {r : Read} → r ≡ headerRead b R C → {k i : ℕ} → HeaderRefusal k i → said r ≡ refused k i
   first-header-refusal R C c h =
       let t = header-told h in
-      ap said (c ∙ sym (header-refused b R C (headerCheck b) refl (t .0) (Refused (t .0)) (t .1) refl)) ∙ t .2
+      ap said (c ∙ sym (header-refused b R C (headerCheck b) refl (t .1))) ∙ t .2
 
 module _ (b : List ℕ) (R C : ℕ) (x y : List Float) where
   pub outcomes-coincide : {r q : Read} {x′ x″ y′ y″ : List Float} → Reads b R C x y r x′ y′ → Reads b R C x y q x″ y″ → (r ≡ q) × (x′ ≡ x″) × (y′ ≡ y″)
@@ -72,26 +81,28 @@ module _ (b : List ℕ) (R C : ℕ) (x y : List Float) where
       (ap answerIn e, ap matrixIn e, ap targetsIn e)
 
   pub refused-writes-nothing : {q : Refusal} {x′ y′ : List Float} → Reads b R C x y (Refused q) x′ y′ → (x′ ≡ x) × (y′ ≡ y)
-  unfolding sheetOf
+  unfolding sheetOf bodyRead
   refused-writes-nothing c =
-      spared (headerCheck b) (rowsFrom b (pOf b) (nOf b) 0) (roomCheck (nOf b) (pOf b) (length x) (length y)) (headerOf b R C) x y _ _ _ _ _ c
+      let d = bodyOf b in
+      spared (headerCheck b) (rowsFrom d (pOf d) (nOf d) 0) (roomCheck (nOf d) (pOf d) (length x) (length y)) (headerOf d R C) x y _ _ _ _ _ c
 
   -- ---- all refusals, in 01's order
 
   -- refusal k at place i is the first that holds
   pub data FirstRefusal : ℕ → ℕ → Type 0 where
     header : {k i : ℕ} → HeaderRefusal b k i → FirstRefusal k i
-    claim : Headed b → {i : ℕ} → i < nOf b → RowsFine b i → (Claims b i → ⊥) → FirstRefusal 14 i
-    pair : Headed b → {i : ℕ} → i < nOf b → RowsFine b i → Claims b i → (Rises b i → ⊥) → FirstRefusal 15 i
-    size : Headed b → RowsFine b (nOf b) → (InSize (nOf b) (pOf b) → ⊥) → FirstRefusal 1 0
-    lengths : Headed b → RowsFine b (nOf b) → InSize (nOf b) (pOf b) → (Lengths (nOf b) (pOf b) (length x) (length y) → ⊥) → FirstRefusal 2 0
+    claim : Headed b → {i : ℕ} → i < rows-in b → RowsFine (bodyOf b) i → (Claims (bodyOf b) i → ⊥) → FirstRefusal 14 i
+    pair : Headed b → {i : ℕ} → i < rows-in b → RowsFine (bodyOf b) i → Claims (bodyOf b) i → (Rises (bodyOf b) i → ⊥) → FirstRefusal 15 i
+    size : Headed b → RowsFine (bodyOf b) (rows-in b) → (InSize (rows-in b) (columns-in b) → ⊥) → FirstRefusal 1 0
+    lengths : Headed b → RowsFine (bodyOf b) (rows-in b) → InSize (rows-in b) (columns-in b)
+        → (Lengths (rows-in b) (columns-in b) (length x) (length y) → ⊥) → FirstRefusal 2 0
 
   -- none of them holds
   pub record WellFormed : Type 0 where
     pub header : Headed b
-    pub rows : RowsFine b (nOf b)
-    pub size : InSize (nOf b) (pOf b)
-    pub lengths : Lengths (nOf b) (pOf b) (length x) (length y)
+    pub rows : RowsFine (bodyOf b) (rows-in b)
+    pub size : InSize (rows-in b) (columns-in b)
+    pub lengths : Lengths (rows-in b) (columns-in b) (length x) (length y)
 
   abbrev Placed : Type 0
   Placed = WellFormed ⊎ ((k : ℕ) × (i : ℕ) × FirstRefusal k i)
@@ -99,25 +110,26 @@ module _ (b : List ℕ) (R C : ℕ) (x y : List Float) where
   -- every sheet is in one row of the table, or in none
   pub every-sheet : WellFormed ⊎ ((k : ℕ) × (i : ℕ) × FirstRefusal k i)
   every-sheet = begins (decLt (length b) 5) where
-    longs : Headed b → RowsFine b (nOf b) → InSize (nOf b) (pOf b) → Dec (Lengths (nOf b) (pOf b) (length x) (length y)) → Placed
+    longs : Headed b → RowsFine (bodyOf b) (rows-in b) → InSize (rows-in b) (columns-in b)
+        → Dec (Lengths (rows-in b) (columns-in b) (length x) (length y)) → Placed
     longs h f z (yes l) = inl (record { header = h; rows = f; size = z; lengths = l })
     longs h f z (no l) = inr (2, 0, lengths h f z l)
 
-    sizes : Headed b → RowsFine b (nOf b) → Dec (InSize (nOf b) (pOf b)) → Placed
-    sizes h f (yes z) = longs h f z (lengths-known (nOf b) (pOf b) (length x) (length y))
+    sizes : Headed b → RowsFine (bodyOf b) (rows-in b) → Dec (InSize (rows-in b) (columns-in b)) → Placed
+    sizes h f (yes z) = longs h f z (lengths-known (rows-in b) (columns-in b) (length x) (length y))
     sizes h f (no z) = inr (1, 0, size h f z)
 
-    rows : Headed b → RowsFine b (nOf b) ⊎ BadRow b (nOf b) → Placed
-    rows h (inl f) = sizes h f (size-known (nOf b) (pOf b))
+    rows : Headed b → RowsFine (bodyOf b) (rows-in b) ⊎ BadRow (bodyOf b) (rows-in b) → Placed
+    rows h (inl f) = sizes h f (size-known (rows-in b) (columns-in b))
     rows h (inr (i, l, f, inl c)) = inr (14, i, claim h l f c)
     rows h (inr (i, l, f, inr (c, r))) = inr (15, i, pair h l f c r)
 
-    flagged : 5 ≤ length b → getD b 0 0 ≡ 1 → Measured b → Dec (3 < flagsOf b) → Placed
+    flagged : 5 ≤ length b → getD b 0 0 ≡ 1 → Measured b → Dec (3 < flagsOf (bodyOf b)) → Placed
     flagged s v m (yes g) = inr (13, 0, header (flags s v m g))
-    flagged s v m (no g) = rows (record { begun = s; version = v; measured = m; flags = omega (arith, g) }) (rows-known b (nOf b))
+    flagged s v m (no g) = rows (record { begun = s; version = v; measured = m; flags = omega (arith, g) }) (rows-known (bodyOf b) (rows-in b))
 
     measures : 5 ≤ length b → getD b 0 0 ≡ 1 → Dec (Measured b) → Placed
-    measures s v (yes m) = flagged s v m (decLt 3 (flagsOf b))
+    measures s v (yes m) = flagged s v m (decLt 3 (flagsOf (bodyOf b)))
     measures s v (no m) = inr (12, 0, header (measure s v m))
 
     versions : 5 ≤ length b → Dec (getD b 0 0 ≡ 1) → Placed
@@ -128,20 +140,23 @@ module _ (b : List ℕ) (R C : ℕ) (x y : List Float) where
     begins (yes h) = inr (12, 0, header (short h))
     begins (no h) = versions (omega (arith, h)) (ℕ-discrete (getD b 0 0) 1)
 
-  row-told : (q : Refusal) → Headed b → rowsFrom b (pOf b) (nOf b) 0 ≡ Bad q → sheetOf b R C x y ≡ outcome (Refused q) x y
-  row-told q h e = sym (bad-row b R C (headerCheck b) refl x y (good-header b h) _ _ refl refl _ refl q (Refused q) e refl)
+  -- past the header
+  body-told : Headed b → {o : Outcome} → o ≡ bodyRead (bodyOf b) R C x y → sheetOf b R C x y ≡ o
+  body-told h {o} e = sym (sheet-read b R C (headerCheck b) refl x y o (good-header b h) e)
 
-  room-told : (q : Refusal) → Headed b → RowsFine b (nOf b) → roomCheck (nOf b) (pOf b) (length x) (length y) ≡ Bad q
+  row-told : (q : Refusal) → Headed b → rowsFrom (bodyOf b) (columns-in b) (rows-in b) 0 ≡ Bad q → sheetOf b R C x y ≡ outcome (Refused q) x y
+  row-told q h e = body-told h (bad-row (bodyOf b) R C x y _ _ refl refl _ refl e)
+
+  room-told : (q : Refusal) → Headed b → RowsFine (bodyOf b) (rows-in b) → roomCheck (rows-in b) (columns-in b) (length x) (length y) ≡ Bad q
       → sheetOf b R C x y ≡ outcome (Refused q) x y
-  room-told q h f e =
-      sym (bad-room b R C (headerCheck b) refl x y (good-header b h) _ _ refl refl _ refl (good-rows b _ f) _ refl q (Refused q) e refl)
+  room-told q h f e = body-told h (bad-room (bodyOf b) R C x y _ _ refl refl _ refl (good-rows (bodyOf b) _ f) _ refl e)
 
   told : {k i : ℕ} → FirstRefusal k i → (q : Refusal) × (sheetOf b R C x y ≡ outcome (Refused q) x y) × (said (Refused q) ≡ refused k i)
   told (header h) =
       let t = header-told b h in
-      (t .0, sym (bad-header b R C (headerCheck b) refl x y (t .0) (Refused (t .0)) (t .1) refl), t .2)
-  told (claim h {i = i} l f n) = (Claim i, row-told (Claim i) h (bad-claim b _ i l f n), refl)
-  told (pair h {i = i} l f c n) = (Pair i, row-told (Pair i) h (bad-pair b _ i l f c n), refl)
+      (t .0, sym (sheet-refused b R C (headerCheck b) refl x y (t .1)), t .2)
+  told (claim h {i = i} l f n) = (Claim i, row-told (Claim i) h (bad-claim (bodyOf b) _ i l f n), refl)
+  told (pair h {i = i} l f c n) = (Pair i, row-told (Pair i) h (bad-pair (bodyOf b) _ i l f c n), refl)
   told (size h f n) = (Size, room-told Size h f (bad-size _ _ _ _ n), refl)
   told (lengths h f z n) = (Length, room-told Length h f (bad-length _ _ _ _ z n), refl)
 
@@ -153,10 +168,10 @@ module _ (b : List ℕ) (R C : ℕ) (x y : List Float) where
         ap (λ (o : Outcome). said (answerIn o)) (c ∙ t .1) ∙ t .2
 
     -- where none holds the sheet is read, to these numbers
-    pub well-formed-read : WellFormed → (r ≡ Sheet (headerOf b R C)) × (x′ ≡ matrixOf b (nOf b) (pOf b)) × (y′ ≡ targetsOf b (nOf b) (pOf b))
+    pub well-formed-read : WellFormed
+        → (r ≡ Sheet (headerOf (bodyOf b) R C)) × (x′ ≡ matrixOf (bodyOf b) (rows-in b) (columns-in b)) × (y′ ≡ targetsOf (bodyOf b) (rows-in b) (columns-in b))
     well-formed-read w =
-        let k = good-header b (w .header) in
-        let l = good-rows b _ (w .rows) in
+        let l = good-rows (bodyOf b) _ (w .rows) in
         let m = good-room _ _ _ _ (w .size) (w .lengths) in
-        let e = c ∙ sym (reads-all b R C (headerCheck b) refl x y k _ _ refl refl _ refl l _ refl _ _ _ m refl refl refl) in
+        let e = c ∙ body-told (w .header) (reads-all (bodyOf b) R C x y _ _ refl refl _ refl l _ refl _ _ _ m refl refl refl) in
         (ap answerIn e, ap matrixIn e, ap targetsIn e)

@@ -2,7 +2,7 @@
 use mathlib.Core.Path.{_≡_}
 use mathlib.Core.Bool.{_&&_, cond}
 use mathlib.Core.List.{List, [], _∷_}
-use Prim.Native.Nat.{ℕ}
+use Prim.Native.Nat.{ℕ, _+_}
 use lib.Dec.{eqb}
 use lib.ListN.{length}
 use lib.Ieee.{Float}
@@ -12,18 +12,18 @@ use Rattle.sheet.specs.declared.Header.{Header}
 use Rattle.sheet.specs.declared.Read.{Read}
 use Rattle.sheet.specs.declared.Read.the-variants.{Sheet, Refused}
 use Rattle.sheet.specs.Sheet.{Outcome, outcome, sheetOf, headerRead}
-use Rattle.c_values.specs.Values.{truthWord, bits}
+use Rattle.c_values.specs.Settings.{settings-words, settingsWords}
 
 -- the number of a refusal, or 0; the header's words, the place's word, matrix and targets
 pub data Called : Type 0 where
   called : ℕ → List ℕ → List ℕ → List Float → List Float → Called
 
--- n, p, and the settings as the fit's calls take them: alpha, l1_ratio, tol, M, R, C, normalise, lazy
+-- n, p, and the settings as the fit's calls take them
+abbrev pub header-words : ℕ
+header-words = 2 + settings-words
+
 unfoldable pub headerWords : Header → List ℕ
-headerWords h =
-    let s = h .settings in
-    h .n ∷ h .p ∷ bits (s .alpha) ∷ bits (s .«l1_ratio») ∷ bits (s .tol) ∷ s .rounds ∷ s .«panel_rows» ∷ s .«panel_cols»
-    ∷ truthWord (s .normalise) ∷ truthWord (s .lazy) ∷ []
+headerWords h = h .n ∷ h .p ∷ settingsWords (h .settings)
 
 abbrev pub numberIn : Read → ℕ
 numberIn (Sheet h) = 0
@@ -42,13 +42,14 @@ headerIn (Refused r) hw = hw
 abbrev pub placeWords : Read → List ℕ → List ℕ
 placeWords o pw = cond (eqb (length pw) 1) (placeIn o ∷ []) pw
 
+-- what is read, as the call returns and leaves it
 unfoldable pub readAs : List ℕ → List ℕ → Outcome → Called
 readAs hw pw (outcome o x y) = called (numberIn o) (headerIn o hw) (placeWords o pw) x y
 
 abbrev pub answerIn : Outcome → Read
 answerIn (outcome o x y) = o
 
--- with words of the wrong number: 2, where nothing before it refuses the sheet
+-- with a slice of the wrong length: 2, where nothing before it refuses the sheet
 abbrev pub unread : Read → Read
 unread (Sheet h) = Refused Length
 unread (Refused r) = Refused r
@@ -57,13 +58,13 @@ unread (Refused r) = Refused r
 unfoldable pub readHeaderWords : List ℕ → ℕ → ℕ → List ℕ → Called
 readHeaderWords b R C hw =
     let o = headerRead b R C in
-    readAs hw [] (outcome (cond (eqb (length hw) 10) o (unread o)) [] [])
+    readAs hw [] (outcome (cond (eqb (length hw) header-words) o (unread o)) [] [])
 
 -- the sheet's bytes, R, C, matrix, targets, header, place
 unfoldable pub readSheetWords : List ℕ → ℕ → ℕ → List Float → List Float → List ℕ → List ℕ → Called
 readSheetWords b R C x y hw pw =
     let o = sheetOf b R C x y in
-    readAs hw pw (cond (eqb (length hw) 10 && eqb (length pw) 1) o (outcome (unread (answerIn o)) x y))
+    readAs hw pw (cond (eqb (length hw) header-words && eqb (length pw) 1) o (outcome (unread (answerIn o)) x y))
 
 -- ---- the contracts: the input as above, then what the call returns and leaves
 

@@ -1,9 +1,8 @@
 // The training sheet's reader for C and Rust, over bytes, with the header as words (specs/Calls.antt says which).
-// Each call returns the number of the refusal, 0 where there is none. Words of the wrong number are refused with 2, as any slice is: after 11 to 15 and 1.
+// Each call returns the number of the refusal, 0 where there is none. A slice of the wrong length is refused with 2, after 11 to 15 and 1.
 // The place's word is written with every answer.
-use c_values::Floats;
-use c_values::truth_word;
-use c_values::write_floats;
+use c_values::SETTINGS_WORDS;
+use c_values::write_settings;
 use refusal::Refusal;
 use refusal::number;
 use refusal::place;
@@ -17,26 +16,24 @@ ghost use mathlib.Core.List.{[]};
 ghost use lib.Dec.{eqb};
 ghost use lib.ListN.{length};
 ghost use Rattle.sheet.specs.Sheet.{sheetOf};
-ghost use Rattle.sheet_api.specs.Calls.{headerWords, numberIn, placeIn, headerIn, placeWords, answerIn, unread, HeaderCall, SheetCall};
+ghost use Rattle.sheet_api.specs.Calls.{header-words, headerWords, numberIn, placeIn, headerIn, placeWords, answerIn, unread, HeaderCall, SheetCall};
+
+// n, p and the settings.
+const HEADER_WORDS: usize = 2 + SETTINGS_WORDS;
 
 fn write_words(h: Header, out: &mut [u64])
-    requires { ⌜ length (now out) ≡ 10 ⌝ }
+    requires { ⌜ length (now out) ≡ header-words ⌝ }
     ensures { λ _. ⌜ now (out .exit) ≡ headerWords h ⌝ }
 {
     let st = h.settings;
     out[0] = h.n as u64;
     out[1] = h.p as u64;
-    write_floats(Floats(st.alpha, st.l1_ratio, st.tol), out, 2);
-    out[5] = st.rounds;
-    out[6] = st.panel_rows as u64;
-    out[7] = st.panel_cols as u64;
-    out[8] = truth_word(st.normalise);
-    out[9] = truth_word(st.lazy);
+    write_settings(st, &mut out[2..]);
 }
 
 // A refusal leaves the words as they were.
 fn write_header(o: Read, out: &mut [u64])
-    requires { ⌜ length (now out) ≡ 10 ⌝ }
+    requires { ⌜ length (now out) ≡ header-words ⌝ }
     ensures { λ _. ⌜ now (out .exit) ≡ headerIn o (now (out .entry)) ⌝ }
 {
     if let Read::Sheet(h) = o {
@@ -62,6 +59,7 @@ fn place_in(o: Read) -> u64
     }
 }
 
+// A slice of the wrong length stays as it was.
 fn write_place(o: Read, out: &mut [u64])
     ensures { λ _. ⌜ now (out .exit) ≡ placeWords o (now (out .entry)) ⌝ }
 {
@@ -71,17 +69,17 @@ fn write_place(o: Read, out: &mut [u64])
     out[0] = place_in(o);
 }
 
-// Header and place have the words that are due.
+// Whether the slices for header and place have the right length.
 fn due(header: usize, place: usize) -> bool
-    ensures { λ r. ⌜ r ≡ (eqb header 10 && eqb place 1) ⌝ }
+    ensures { λ r. ⌜ r ≡ (eqb header header-words && eqb place 1) ⌝ }
 {
-    if header != 10 {
+    if header != HEADER_WORDS {
         return false;
     }
     place == 1
 }
 
-// With words of the wrong number a header that is read is refused with 2.
+// What is answered for a header slice of the wrong length: a header that can be read is refused with 2.
 fn unheld(o: Read) -> Read
     ensures { λ r. ⌜ r ≡ unread o ⌝ }
 {
@@ -91,7 +89,7 @@ fn unheld(o: Read) -> Read
     }
 }
 
-// Reads the sheet into nothing: past 1 it has a row, so it is refused with 2 at the latest.
+// Reads the sheet into empty slices: it is refused with 2 at the latest, since past 1 it has a row.
 fn refuse(bytes: &[u8], rows: usize, cols: usize, place: &mut [u64]) -> u64
     ensures { λ r. ⌜ r ≡ numberIn (answerIn (sheetOf (now (bytes .entry)) rows cols [] [])) ⌝ }
     ensures { λ _. ⌜ now (place .exit) ≡ placeWords (answerIn (sheetOf (now (bytes .entry)) rows cols [] [])) (now (place .entry)) ⌝ }
@@ -103,6 +101,7 @@ fn refuse(bytes: &[u8], rows: usize, cols: usize, place: &mut [u64]) -> u64
     number_in(o)
 }
 
+// The header of a sheet, as ten words. A refusal leaves them as they were.
 #[no_mangle]
 pub extern "C" fn xangoravit_read_header(
     bytes: &[u8],
@@ -113,13 +112,14 @@ pub extern "C" fn xangoravit_read_header(
     ensures { λ r. ⌜ HeaderCall (now (bytes .entry)) rows cols (now (header .entry)) r (now (header .exit)) ⌝ }
 {
     let o = read_header(bytes, rows, cols);
-    if header.len() != 10 {
+    if header.len() != HEADER_WORDS {
         return number_in(unheld(o));
     }
     write_header(o, header);
     number_in(o)
 }
 
+// A sheet into x and y, its header as ten words, and the place of a refusal as one. A refusal leaves all but the place as it was.
 #[no_mangle]
 pub extern "C" fn xangoravit_read_sheet(
     bytes: &[u8],
@@ -130,7 +130,8 @@ pub extern "C" fn xangoravit_read_sheet(
     header: &mut [u64],
     place: &mut [u64],
 ) -> u64
-    ensures { λ r. ⌜ SheetCall (now (bytes .entry)) rows cols (now (x .entry)) (now (y .entry)) (now (header .entry)) (now (place .entry)) r (now (header .exit)) (now (place .exit)) (now (x .exit)) (now (y .exit)) ⌝ }
+    ensures { λ r. ⌜ SheetCall (now (bytes .entry)) rows cols (now (x .entry)) (now (y .entry)) (now (header .entry)) (now (place .entry))
+        r (now (header .exit)) (now (place .exit)) (now (x .exit)) (now (y .exit)) ⌝ }
 {
     if !due(header.len(), place.len()) {
         return refuse(bytes, rows, cols, place);

@@ -1,16 +1,15 @@
 -- A lemma for each return: what a callee wrote is the text of the caller's answer. Assumes nothing.
 use mathlib.Core.Path.{_≡_, refl, sym, ap, _∙_}
-use mathlib.Core.Bool.{Bool, true, false, cond}
-use mathlib.Core.List.{List, [], _∷_}
+use mathlib.Core.List.{List, _∷_}
 use Prim.Native.Nat.{ℕ, zero, suc, _-_, _*_, _≤_, _<_}
 use native.Mathlib.Nat.{mul-le-mul}
 use native.Mathlib.Omega.{arith}
 use borrow.Author.Tests.{lt-ltb, le-ltb, le-leb, lt-leb}
-use lib.Dec.{ltb}
 use lib.ListN.{length, take, replicate, length-replicate, getD-replicate}
 use lib.Seq.{ext-getD}
 use lib.Ieee.{Float}
-use Rattle.arrays.specs.Part.{tab, length-tab, getD-tab}
+use Rattle.arrays.specs.Part.{tab}
+use Rattle.arrays.proofs.Part.{length-tab, getD-tab}
 use Rattle.arrays.specs.Sums.{plus0}
 use Rattle.arrays.specs.Vectors.{fillOf}
 use Rattle.refusal.specs.declared.Refusal.{Refusal}
@@ -18,21 +17,20 @@ use Rattle.refusal.specs.declared.Refusal.the-variants.{TooLarge}
 use Rattle.refusal.specs.declared.Checked.{Checked}
 use Rattle.refusal.specs.declared.Checked.the-variants.{Fine, Bad}
 use Rattle.settings.specs.declared.Settings.{Settings}
-use Rattle.whole_fit.specs.Fit.{wholeOf}
-use Rattle.stages.specs.declared.Counts.{Counts}
-use Rattle.elastic_net.specs.declared.Way.{Way}
-use Rattle.elastic_net.specs.declared.Way.the-variants.{Converged as ConvergedW, Limit as LimitW}
-use Rattle.elastic_net.specs.declared.Answer.{Answer}
-use Rattle.elastic_net.specs.declared.Answer.the-variants.{Pending as PendingA, Done as DoneA, Refused as RefusedA}
-use Rattle.elastic_net.specs.declared.Resumed.{Resumed}
-use Rattle.elastic_net.specs.ElasticNet.{Outcome, outcome, said}
-use Rattle.answer_text.specs.declared.Ending.{Ending}
-use Rattle.answer_text.specs.declared.Ending.the-variants.{Converged, Limit}
+use Rattle.records.specs.declared.Counts.{Counts}
+use Rattle.refusal.specs.declared.Way.{Way}
+use Rattle.refusal.specs.declared.Way.the-variants.{Converged, Limit}
+use Rattle.elastic_net.specs.ElasticNet.{Outcome}
+use Rattle.whole_fit.specs.declared.Final.{Final}
+use Rattle.whole_fit.specs.declared.Final.the-variants.{Done, Refused as RefusedF}
+use Rattle.whole_fit.specs.declared.Whole.{Whole}
+use Rattle.whole_fit.specs.Fit.{saidFinal, wholeOutcome, wholeOf}
 use Rattle.answer_text.specs.Text.{Written, Written.written, laid, doneText, doneOf}
 use Rattle.sheet.specs.declared.Header.{Header}
 use Rattle.sheet.specs.declared.Read.{Read}
 use Rattle.sheet.specs.declared.Read.the-variants.{Sheet, Refused}
-use Rattle.sheet.specs.Sheet.{nOf, pOf, headerCheck, rowsFrom, roomCheck, headerOf, matrixOf, targetsOf, headerRead, headed, byCheck, sheetOf}
+use Rattle.sheet.specs.Sheet.{nOf, pOf, rowsFrom, roomCheck, headerOf, matrixOf, targetsOf, byCheck, bodyRead}
+use Rattle.sheet.specs.Sheet.{bodyOf, headerCheck, headerRead, headed, sheetOf}
 use Rattle.sheet.specs.Sheet.{Outcome as SheetOutcome, Outcome.outcome as sheet-outcome}
 use Rattle.sheet_fit.specs.SheetFit.{refusalText, bitsOf, endedText, answerText, wholeText, fitText, readText, sizedText, sheetText}
 
@@ -41,36 +39,24 @@ use Rattle.sheet_fit.specs.SheetFit.{refusalText, bitsOf, endedText, ans
 pub same-text : {k : Written} {t u : List ℕ} (out : List ℕ) → t ≡ u → k ≡ laid t out → k ≡ laid u out
 same-text out e h = h ∙ ap (λ (l : List ℕ). laid l out) e
 
-pub done-few : (e : Ending) (r s t x : ℕ) (ws out : List ℕ) → length ws ≤ 16 → doneOf e r s t x ws out ≡ laid (doneText e r s t x ws) out
+pub done-few : (e : Way) (r s t x : ℕ) (ws out : List ℕ) → length ws ≤ 16 → doneOf e r s t x ws out ≡ laid (doneText e r s t x ws) out
 unfolding doneOf
 done-few e r s t x ws out l = rw (le-ltb 64 (length ws) (omega arith))
 
--- no text, whatever is lent
-pub nothing-laid : (out : List ℕ) → written 0 out ≡ laid [] out
-unfolding laid
-nothing-laid out = go (ltb (length out) 2048) where
-  go : (t : Bool) → written 0 out ≡ cond t (written 0 out) (written 0 out)
-  go true = refl
-  go false = refl
-
 -- ---- the text of an answer, and of a fit
 
-module _ {a : Answer} (ws : List ℕ) where
-  pub pending-text : a ≡ PendingA → [] ≡ answerText (said a) ws
-  pending-text e = rw e
+module _ {a : Final} (ws : List ℕ) where
+  pub done-text : {b : Float} {w : Way} {c : Counts} → a ≡ Done b w c → endedText w b c ws ≡ answerText (saidFinal a) ws
+  done-text {b} {w} {c} e = go w e where
+    go : (v : Way) → a ≡ Done b v c → endedText v b c ws ≡ answerText (saidFinal a) ws
+    go Converged f = rw f
+    go Limit f = rw f
 
-  module _ {b : Float} {w : Way} {c : Counts} (e : a ≡ DoneA b w c) where
-    pub converged-text : w ≡ ConvergedW → endedText Converged b c ws ≡ answerText (said a) ws
-    converged-text f = rw (e, f)
-
-    pub limit-text : w ≡ LimitW → endedText Limit b c ws ≡ answerText (said a) ws
-    limit-text f = rw (e, f)
-
-  pub refused-text : {r : Refusal} → a ≡ RefusedA r → refusalText r ≡ answerText (said a) ws
+  pub refused-text : {r : Refusal} → a ≡ RefusedF r → refusalText r ≡ answerText (saidFinal a) ws
   refused-text e = rw e
 
-pub whole-text : (p : ℕ) {o : Outcome} (r : Resumed) {w s : List Float} {ws : List ℕ} → outcome r w s ≡ o → ws ≡ bitsOf p w
-    → answerText (said (r .answer)) ws ≡ wholeText p o
+pub whole-text : (p : ℕ) {o : Outcome} (r : Whole) {w s : List Float} {ws : List ℕ} → wholeOutcome r w s ≡ o → ws ≡ bitsOf p w
+    → answerText (saidFinal (r .answer)) ws ≡ wholeText p o
 whole-text p r e f = rw (← e, f)
 
 pub fit-text : (n p : ℕ) (st : Settings) (x y : List Float) {s w : List Float} → s ≡ fillOf plus0 6336 → w ≡ fillOf plus0 p
@@ -122,36 +108,37 @@ module _ (b : List ℕ) where
 -- ---- p is that of the header
 
 module _ (b : List ℕ) (R C : ℕ) {h : Header} where
-  from-header : h ≡ headerOf b R C → h .p ≡ pOf b
+  from-header : h ≡ headerOf (bodyOf b) R C → h .p ≡ pOf (bodyOf b)
   unfolding headerOf
   from-header e = ap (λ (g : Header). g .p) e
 
-  pub header-is : {r : Read} → r ≡ headerRead b R C → r ≡ Sheet h → h .p ≡ pOf b
+  pub header-is : {r : Read} → r ≡ headerRead b R C → r ≡ Sheet h → h .p ≡ pOf (bodyOf b)
   unfolding headerRead
   header-is {r} e f = go (headerCheck b) (sym f ∙ e) where
-    go : (k : Checked) → Sheet h ≡ headed k (headerOf b R C) → h .p ≡ pOf b
+    go : (k : Checked) → Sheet h ≡ headed k (headerOf (bodyOf b) R C) → h .p ≡ pOf (bodyOf b)
     go Fine i = from-header (cc)
     go (Bad q) i =
         let z : _≡_ {A = ℕ} 0 1 = cc in
         absurd (omega arith)
 
-  pub sheet-is : (x y : List Float) {r : Read} {x′ y′ : List Float} → sheet-outcome r x′ y′ ≡ sheetOf b R C x y → r ≡ Sheet h → h .p ≡ pOf b
-  unfolding sheetOf
+  pub sheet-is : (x y : List Float) {r : Read} {x′ y′ : List Float} → sheet-outcome r x′ y′ ≡ sheetOf b R C x y → r ≡ Sheet h → h .p ≡ pOf (bodyOf b)
+  unfolding sheetOf bodyRead
   sheet-is x y {r} {x′} {y′} e f =
-      go (headerCheck b) (rowsFrom b (pOf b) (nOf b) 0) (roomCheck (nOf b) (pOf b) (length x) (length y)) (rw f at e) where
-        bad : {q : Refusal} → sheet-outcome (Sheet h) x′ y′ ≡ sheet-outcome (Refused q) x y → h .p ≡ pOf b
+      let d = bodyOf b in
+      go (headerCheck b) (rowsFrom d (pOf d) (nOf d) 0) (roomCheck (nOf d) (pOf d) (length x) (length y))
+      (matrixOf d (nOf d) (pOf d)) (targetsOf d (nOf d) (pOf d)) (rw f at e) where
+        bad : {q : Refusal} → sheet-outcome (Sheet h) x′ y′ ≡ sheet-outcome (Refused q) x y → h .p ≡ pOf (bodyOf b)
         bad i =
             let z : _≡_ {A = ℕ} 0 1 = cc in
             absurd (omega arith)
 
-        go : (c₁ c₂ c₃ : Checked)
-            → sheet-outcome (Sheet h) x′ y′
-            ≡ byCheck c₁ x y (byCheck c₂ x y (byCheck c₃ x y (sheet-outcome (Sheet (headerOf b R C)) (matrixOf b (nOf b) (pOf b)) (targetsOf b (nOf b) (pOf b)))))
-            → h .p ≡ pOf b
-        go Fine Fine Fine i = from-header (cc)
-        go (Bad q) c₂ c₃ i = bad i
-        go Fine (Bad q) c₃ i = bad i
-        go Fine Fine (Bad q) i = bad i
+        go : (c₁ c₂ c₃ : Checked) (x₁ y₁ : List Float)
+            → sheet-outcome (Sheet h) x′ y′ ≡ byCheck c₁ x y (byCheck c₂ x y (byCheck c₃ x y (sheet-outcome (Sheet (headerOf (bodyOf b) R C)) x₁ y₁)))
+            → h .p ≡ pOf (bodyOf b)
+        go Fine Fine Fine x₁ y₁ i = from-header (cc)
+        go (Bad q) c₂ c₃ x₁ y₁ i = bad i
+        go Fine (Bad q) c₃ x₁ y₁ i = bad i
+        go Fine Fine (Bad q) x₁ y₁ i = bad i
 
 -- ---- new arrays: all +0, and the first n of them
 

@@ -11,17 +11,17 @@ use Rattle.arrays.specs.Sums.{_!_, plus0}
 use Rattle.arrays.specs.Vectors.{fillOf}
 use Rattle.refusal.specs.declared.Refusal.{Refusal}
 use Rattle.refusal.specs.declared.Refusal.the-variants.{TooLarge}
+use Rattle.refusal.specs.declared.Way.{Way}
+use Rattle.refusal.specs.declared.Way.the-variants.{Converged, Limit}
 use Rattle.refusal.specs.Refusal.{numberOf, placeOf}
 use Rattle.settings.specs.declared.Settings.{Settings}
-use Rattle.stages.specs.declared.Counts.{Counts}
+use Rattle.records.specs.declared.Counts.{Counts}
 use Rattle.elastic_net.specs.ElasticNet.{Said, pending, converged, limit, refused, Outcome}
 use Rattle.whole_fit.specs.Fit.{wholeOf}
 use Rattle.sheet.specs.declared.Read.{Read}
 use Rattle.sheet.specs.declared.Read.the-variants.{Sheet, Refused}
 use Rattle.sheet.specs.Sheet.{outcome, sheetOf, headerRead}
 use Rattle.sheet.specs.Sheet.{Outcome as SheetOutcome}
-use Rattle.answer_text.specs.declared.Ending.{Ending}
-use Rattle.answer_text.specs.declared.Ending.the-variants.{Converged, Limit}
 use Rattle.answer_text.specs.Text.{Written.written, laid, doneText, refusedText}
 
 abbrev pub refusalText : Refusal → List ℕ
@@ -30,16 +30,17 @@ refusalText r = refusedText (numberOf r) (placeOf r)
 unfoldable pub bitsOf : ℕ → List Float → List ℕ
 bitsOf p ws = tab (λ j. toBits binary64 (ws ! j)) p
 
-abbrev pub endedText : Ending → Float → Counts → List ℕ → List ℕ
+abbrev pub endedText : Way → Float → Counts → List ℕ → List ℕ
 endedText e b c ws = doneText e (c .rounds .0) (c .solver .0) (c .trials .0) (toBits binary64 b) ws
 
--- a fit with a budget of 5,100·M steps is never pending
+-- no whole fit is pending
 abbrev pub answerText : Said → List ℕ → List ℕ
 answerText pending ws = []
 answerText (converged b c) ws = endedText Converged b c ws
 answerText (limit b c) ws = endedText Limit b c ws
 answerText (refused n i) ws = refusedText n i
 
+-- the text of a whole fit of p columns
 abbrev pub wholeText : ℕ → Outcome → List ℕ
 wholeText p o = answerText (o .answer) (bitsOf p (o .weights))
 

@@ -1,26 +1,24 @@
 // A training sheet's bytes to the text of its fit, or of its refusal.
-use answer_text::Ending;
 use answer_text::write_done;
 use answer_text::write_refused;
-use elastic_net::Answer;
-use elastic_net::Way;
 use numbers::bits::bits_of;
+use records::Counts;
 use refusal::Refusal;
+use refusal::Way;
 use refusal::number;
 use refusal::place;
 use settings::Settings;
 use sheet::Read;
 use sheet::read_header;
 use sheet::read_sheet;
-use stages::Counts;
+use whole_fit::Final;
 use whole_fit::fit;
 ghost use mathlib.Core.Path.{_≡_};
 ghost use Prim.Native.Nat.{_≤_};
 ghost use lib.ListN.{length};
 ghost use Rattle.answer_text.specs.Text.{Written.written, laid};
-ghost use Rattle.elastic_net.specs.ElasticNet.{said};
-ghost use Rattle.whole_fit.specs.Fit.{wholeOf};
-ghost use Rattle.sheet.specs.Sheet.{pOf, sheetOf};
+ghost use Rattle.whole_fit.specs.Fit.{saidFinal, wholeOf};
+ghost use Rattle.sheet.specs.Sheet.{pOf, bodyOf, sheetOf};
 ghost use Rattle.sheet_fit.specs.SheetFit.{refusalText, bitsOf, endedText, answerText, wholeText, fitText, readText, sizedText, sheetText};
 
 fn refused(out: &mut [u8], r: Refusal) -> usize
@@ -31,7 +29,8 @@ fn refused(out: &mut [u8], r: Refusal) -> usize
 
 // The bits of p weights.
 fn bits_from(w: &[f64], p: usize, out: &mut [u64])
-    requires { ⌜ (length (now w) ≡ p) × (length (now out) ≡ p) ⌝ }
+    requires { ⌜ length (now w) ≡ p ⌝ }
+    requires { ⌜ length (now out) ≡ p ⌝ }
     ensures { λ _. ⌜ now (out .exit) ≡ bitsOf p (now (w .entry)) ⌝ }
 {
     for j in 0..p {
@@ -39,7 +38,7 @@ fn bits_from(w: &[f64], p: usize, out: &mut [u64])
     }
 }
 
-fn ended(out: &mut [u8], e: Ending, b: f64, c: Counts, w: &[u64]) -> usize
+fn ended(out: &mut [u8], e: Way, b: f64, c: Counts, w: &[u64]) -> usize
     requires { ⌜ length (now w) ≤ 16 ⌝ }
     ensures { λ k. ⌜ written k (now (out .exit)) ≡ laid (endedText e b c (now (w .entry))) (now (out .entry)) ⌝ }
 {
@@ -49,17 +48,13 @@ fn ended(out: &mut [u8], e: Ending, b: f64, c: Counts, w: &[u64]) -> usize
     write_done(out, e, r.0, s.0, t.0, bits_of(b), w)
 }
 
-fn answered(out: &mut [u8], a: Answer, w: &[u64]) -> usize
+fn answered(out: &mut [u8], a: Final, w: &[u64]) -> usize
     requires { ⌜ length (now w) ≤ 16 ⌝ }
-    ensures { λ k. ⌜ written k (now (out .exit)) ≡ laid (answerText (said a) (now (w .entry))) (now (out .entry)) ⌝ }
+    ensures { λ k. ⌜ written k (now (out .exit)) ≡ laid (answerText (saidFinal a) (now (w .entry))) (now (out .entry)) ⌝ }
 {
     match a {
-        Answer::Pending => 0,
-        Answer::Done(b, way, c) => match way {
-            Way::Converged => ended(out, Ending::Converged, b, c, w),
-            Way::Limit => ended(out, Ending::Limit, b, c, w),
-        },
-        Answer::Refused(r) => refused(out, r),
+        Final::Done(b, way, c) => ended(out, way, b, c, w),
+        Final::Refused(r) => refused(out, r),
     }
 }
 
@@ -75,8 +70,11 @@ fn fitted_in(
     bits: &mut [u64],
     out: &mut [u8],
 ) -> usize
-    requires { ⌜ (p ≤ 16) × (length (now w) ≡ p) × (length (now bits) ≡ p) ⌝ }
-    ensures { λ k. ⌜ written k (now (out .exit)) ≡ laid (wholeText p (wholeOf n p (now (x .entry)) (now (y .entry)) st (now (s .entry)) (now (w .entry)))) (now (out .entry)) ⌝ }
+    requires { ⌜ p ≤ 16 ⌝ }
+    requires { ⌜ length (now w) ≡ p ⌝ }
+    requires { ⌜ length (now bits) ≡ p ⌝ }
+    ensures { λ k. ⌜ written k (now (out .exit))
+        ≡ laid (wholeText p (wholeOf n p (now (x .entry)) (now (y .entry)) st (now (s .entry)) (now (w .entry)))) (now (out .entry)) ⌝ }
 {
     let r = fit(n, p, x, y, st, s, w);
     bits_from(w, p, bits);
@@ -84,6 +82,7 @@ fn fitted_in(
     answered(out, a, bits)
 }
 
+// The same in memory of its own: 6,336 words are what 256 rows of 16 features need.
 fn fitted(n: usize, p: usize, st: Settings, x: &[f64], y: &[f64], out: &mut [u8]) -> usize
     requires { ⌜ p ≤ 16 ⌝ }
     ensures { λ k. ⌜ written k (now (out .exit)) ≡ laid (fitText n p st (now (x .entry)) (now (y .entry))) (now (out .entry)) ⌝ }
@@ -106,7 +105,7 @@ fn fitted(n: usize, p: usize, st: Settings, x: &[f64], y: &[f64], out: &mut [u8]
 
 // A sheet of at most 16 features, read into x and y.
 fn read_in(b: &[u8], x: &mut [f64], y: &mut [f64], out: &mut [u8]) -> usize
-    requires { ⌜ pOf (now b) ≤ 16 ⌝ }
+    requires { ⌜ pOf (bodyOf (now b)) ≤ 16 ⌝ }
     ensures { λ k. ⌜ written k (now (out .exit)) ≡ laid (readText (sheetOf (now (b .entry)) 32 8 (now (x .entry)) (now (y .entry)))) (now (out .entry)) ⌝ }
 {
     match read_sheet(b, 32, 8, x, y) {
@@ -115,9 +114,9 @@ fn read_in(b: &[u8], x: &mut [f64], y: &mut [f64], out: &mut [u8]) -> usize
     }
 }
 
-// A sheet whose header is read: n rows of p features.
+// A sheet whose header is read: n rows of p features, refused with 16 where there are more than 256 or 16.
 fn headed(b: &[u8], n: usize, p: usize, out: &mut [u8]) -> usize
-    requires { ⌜ p ≡ pOf (now b) ⌝ }
+    requires { ⌜ p ≡ pOf (bodyOf (now b)) ⌝ }
     ensures { λ k. ⌜ written k (now (out .exit)) ≡ laid (sizedText (now (b .entry)) n p) (now (out .entry)) ⌝ }
 {
     if n > 256 {
@@ -131,7 +130,8 @@ fn headed(b: &[u8], n: usize, p: usize, out: &mut [u8]) -> usize
     read_in(b, &mut matrix[0..n * p], &mut scores[0..n], out)
 }
 
-// Total, for all bytes. The text stands at the front of `out`, of which 2,048 bytes are needed; the answer is its length.
+// Writes the text of a sheet's fit, or of its refusal, at the front of `out` and answers its length. It needs 2,048 bytes: with fewer it writes nothing and
+// answers 0. Total, for all bytes.
 pub fn fit_sheet(b: &[u8], out: &mut [u8]) -> usize
     ensures { λ k. ⌜ written k (now (out .exit)) ≡ laid (sheetText (now (b .entry))) (now (out .entry)) ⌝ }
 {

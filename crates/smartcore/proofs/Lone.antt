@@ -8,12 +8,13 @@ use borrow.Author.Tests.{ne-eqb}
 use lib.Dec.{T, eqb}
 use lib.Ieee.{Float, le, eq}
 use Rattle.numbers.specs.Ops.{_⊘_}
-use Rattle.arrays.specs.Part.{tab, tab-ext}
+use Rattle.arrays.specs.Part.{tab}
+use Rattle.arrays.proofs.Part.{tab-ext}
 use Rattle.arrays.specs.Sums.{_!_, plus0, normTwoOf}
 use Rattle.arrays.specs.Vectors.{fillOf}
 use Rattle.bg_solver.specs.Solver.{System, Work, begun, turned, errorOf}
-use Rattle.lone_solver.specs.Lone.{loneSystem, diagonalOf, overOf, dividedOf}
-use Rattle.lone_solver.specs.Solve.{Result, found, loop as loopL, solved}
+use Rattle.lone_rounds.specs.Lone.{loneSystem, diagonalOf, overOf, dividedOf}
+use Rattle.lone_rounds.specs.Loop.{Result, found, loop as loopL, solved}
 use Rattle.lone_solver.specs.declared.Answer.{Answer}
 use Rattle.lone_solver.specs.declared.Answer.the-variants.{Solved}
 use Rattle.lone_solver.proofs.LoneSolver.{Solves, FirstRefusal, Accepted, every-input, solved-otherwise}

@@ -6,8 +6,10 @@ use Prim.Native.Nat.{ℕ, _+_, _*_, _<_}
 use lib.Ieee.{Float, nan}
 use Rattle.numbers.specs.Ops.{_⊕_, _⊖_, _⊗_, _⊘_}
 use Rattle.numbers.specs.Constants.{one}
-use Rattle.arrays.specs.Part.{tab, tab-ext, getD-tab}
-use Rattle.arrays.specs.Sums.{_!_, plus0, fold-ext}
+use Rattle.arrays.specs.Part.{tab}
+use Rattle.arrays.proofs.Part.{tab-ext, getD-tab}
+use Rattle.arrays.specs.Sums.{_!_, plus0}
+use Rattle.arrays.proofs.Folds.{fold-ext}
 use Rattle.settings.specs.declared.Terms.{Terms}
 use Rattle.lazy_normalization.specs.Lazy.{isNormal, reciprocalOf, normalised, lazyAt, lazyRows, lazyColumns}
 use Rattle.lazy_normalization.proofs.Choice.{times-reciprocal, by-division}

@@ -1,4 +1,4 @@
--- One small fit that converges, worked out from the definitions round by round: features 1 and -1, scores -1 and 5, alpha 2, l1_ratio 0.25, tol 0.0625, no flags.
+-- One small fit that converges, worked out from the definitions round by round: features 1, -1, scores -1, 5, alpha 2, l1_ratio 0.25, tol 0.0625, no flags.
 -- The bits are those of the fixed oracle. Assumes nothing.
 use mathlib.Core.Path.{_≡_, refl}
 use mathlib.Core.Bool.{false}

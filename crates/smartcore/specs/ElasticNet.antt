@@ -1,5 +1,5 @@
--- elastic_net.rs: `fit`, from a matrix of n rows and p columns, n targets and settings to the coefficients and the intercept. Its two other ways out, for targets of another
--- number and for a constant column, are 01's refusals 2 and 6, which stand ahead of every fit of ours. Definitions only.
+-- elastic_net.rs: `fit`, from a matrix of n rows and p columns, n targets and settings to the coefficients and the intercept. Its two other ways out, for
+-- targets of the wrong length and for a constant column, are 01's refusals 2 and 6, which stand ahead of every fit of ours. Definitions only.
 use mathlib.Core.Bool.{true, cond}
 use mathlib.Core.List.{List, _++_}
 use Prim.Native.Nat.{ℕ, _+_}
@@ -66,5 +66,6 @@ modelOf n p x y st (converged c o) = converged c (rescaled n p x y st (o .w))
 modelOf n p x y st (limit c o) = limit c (rescaled n p x y st (o .w))
 modelOf n p x y st (failed k c) = failed k c
 
+-- the optimiser, and then the model in the scale of the matrix
 unfoldable pub fit : ℕ → ℕ → List Float → List Float → Settings → Fitted ElasticNet
 fit n p x y st = modelOf n p x y st (optimizeFit n p x y st)

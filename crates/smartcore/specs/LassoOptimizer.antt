@@ -1,4 +1,5 @@
--- lasso_optimizer.rs: InteriorPointOptimizer, line by line and with its names; what is used stands before its use. Vectors are lists, and a loop carries its variables. Definitions only.
+-- lasso_optimizer.rs: InteriorPointOptimizer, line by line and with its names; what is used stands before its use. Vectors are lists, and a loop carries its
+-- variables. Definitions only.
 use mathlib.Core.Bool.{Bool, true, false, not, _&&_, cond}
 use mathlib.Core.List.{List, _++_}
 use Prim.Native.Nat.{ℕ, zero, suc, _+_, _*_}
@@ -80,6 +81,7 @@ matVecMul p ata d1 d2 x =
     tab (λ i. two ⊗ atax ! i ⊕ d1 ! i ⊗ x ! i ⊕ d2 ! i ⊗ x ! (i + p)) p
     ++ tab (λ i. d2 ! i ⊗ x ! i ⊕ d1 ! i ⊗ x ! (i + p)) p
 
+-- the solver of a round: mat_t_vec_mul is mat_vec_mul, since the matrix is symmetric
 unfoldable pub selfOf : ℕ → List Float → List Float → List Float → List Float → List Float → Solver
 selfOf p ata d1 d2 prb prs = record {
   matVecMul = matVecMul p ata d1 d2;

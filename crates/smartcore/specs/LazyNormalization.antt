@@ -18,6 +18,7 @@ normalized raw center scale =
 
 -- x has n rows and p columns; below them stand p rows with padding on the diagonal
 module _ (n p : ℕ) (gamma padding : Float) (x centers scales : List Float) where
+  -- row i, column j of the first n rows, before gamma
   abbrev pub entry : ℕ → ℕ → Float
   entry i j = normalized (x ! (i * p + j)) (centers ! j) (scales ! j)
 

@@ -14,7 +14,7 @@ ghost use Rattle.lasso_optimizer.specs.Data.{held};
 ghost use Rattle.lasso_optimizer.specs.Solving.{turns, phiAt, missedBy, aimBy};
 ghost use Rattle.lasso_optimizer.specs.Fit.{DidTurn};
 
-// The k-th round.
+// The k-th round of a solve, from 1. Its error and bkden go into the scalars.
 pub fn turn(s: &mut [f64], sh: Sizes, l: Places, k: u64, a: Scalars) -> Turned
     requires { ⌜ Room sh l (now s) ⌝ }
     ensures { λ o. ⌜ DidTurn sh (rest sh (now (s .entry))) (turns sh k (held a (vars sh (now (s .entry))))) o (now (s .exit)) ⌝ }
@@ -53,7 +53,7 @@ fn phi_at(s: &[f64], sh: Sizes, tm: Terms, l: Places, t: f64) -> f64
     phi(tm.lambda, t, zz, sumu, logs)
 }
 
-// What follows the last round: the miss, phi, gdx and s = 1.
+// What follows a solve's last round, ready for the search: whether it missed its tolerance, phi and gdx at the start, and a first step of 1.
 pub fn aim(s: &[f64], sh: Sizes, tm: Terms, l: Places, a: Scalars) -> Scalars
     requires { ⌜ Room sh l (now s) ⌝ }
     ensures { λ r. ⌜ r ≡ aimBy sh tm a (vars sh (now (s .entry))) ⌝ }

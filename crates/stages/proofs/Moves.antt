@@ -6,16 +6,20 @@ use mathlib.Core.Bool.{Bool, true, false, cond}
 use mathlib.Core.List.{List}
 use lib.Dec.{ltb}
 use lib.Ieee.{Float}
+use Rattle.refusal.specs.declared.Failure.{Failure}
+use Rattle.refusal.specs.declared.Failure.the-variants.{Search}
+use Rattle.refusal.specs.declared.Way.the-variants.{Converged, Limit}
 use Rattle.pause.specs.Progress.{Progress}
-use Rattle.pause.specs.Parts.{Opened, ready, done, tiny, Turned, more, stop, Tried, accept, halve}
+use Rattle.pause.specs.Parts.{Opened, ready, done, fails, Turned, more, stop, Tried, accept, halve}
 use Rattle.pause.specs.Parts.{Counts, round+, solver+, trial+, End}
 use Rattle.pause.specs.Paused.{State, opening, solving, searching, dataOf, nextRound, afterOpening, afterTurn, afterTrial, step}
 use Rattle.settings.specs.declared.Terms.{Terms}
 use Rattle.layout.specs.declared.Sizes.{Sizes}
-use Rattle.layout.specs.Slots.{Store, vars, vars-of}
+use Rattle.layout.specs.Slots.{Store, vars}
+use Rattle.layout.proofs.Slots.{vars-of}
 use Rattle.lasso_optimizer.specs.declared.Scalars.{Scalars}
 use Rattle.lasso_optimizer.specs.declared.Opened.{Opened as OpenedE}
-use Rattle.lasso_optimizer.specs.declared.Opened.the-variants.{Ready, Done, Tiny}
+use Rattle.lasso_optimizer.specs.declared.Opened.the-variants.{Ready, Done, Failed}
 use Rattle.lasso_optimizer.specs.declared.Turned.{Turned as TurnedE}
 use Rattle.lasso_optimizer.specs.declared.Turned.the-variants.{More, Stop}
 use Rattle.lasso_optimizer.specs.declared.Tried.{Tried as TriedE}
@@ -25,36 +29,37 @@ use Rattle.lasso_optimizer.specs.Opening.{opens}
 use Rattle.lasso_optimizer.specs.Solving.{turns, aim, aimBy}
 use Rattle.lasso_optimizer.specs.Trial.{tries}
 use Rattle.lasso_optimizer.specs.Fit.{parts, openedRes, openedData, DidOpen, turnedRes, turnedData, DidTurn, triedRes, triedData, DidTry}
-use Rattle.stages.specs.declared.Stage.the-variants.{Opening, Solving, Searching}
-use Rattle.stages.specs.declared.How.the-variants.{Converged, Limit, Refused}
+use Rattle.records.specs.declared.Stage.the-variants.{Opening, Solving, Searching}
+use Rattle.stages.specs.declared.How.the-variants.{Done as DoneH, Failed as FailedH}
 use Rattle.stages.specs.declared.Stepped.{Stepped}
 use Rattle.stages.specs.declared.Stepped.the-variants.{Going, Over}
-use Rattle.stages.specs.Stage.{Did, pausedAt, countsBack, searchFrom, turnedIn, triedIn, answer, leftData, pausedOf, howOf}
+use Rattle.records.specs.Record.{pausedAt, countsBack, pausedOf}
+use Rattle.stages.specs.Stage.{Did, searchFrom, turnedIn, triedIn, answer, leftData, howOf}
 
 -- another way to say the same answer
-told : {sh : Sizes} {e : List Float} {o : Progress (End Data) (State Data)} {a a′ : Stepped} {m : List Float} → Did sh e o a m → a′ ≡ a → Did sh e o a′ m
+told : {sh : Sizes} {e : List Float} {o : Progress (End Failure Data) (State Data)} {a a′ : Stepped} {m : List Float} → Did sh e o a m → a′ ≡ a → Did sh e o a′ m
 told d q = record { is = q ∙ d .is; left = d .left }
 
 -- what the code answers to each variant
 abbrev codeOpened : ℕ → Counts → OpenedE → Stepped
 codeOpened r c (Ready w) = Going (pausedAt (Solving 1) r c w)
-codeOpened r c Done = Over Converged (countsBack c)
-codeOpened r c Tiny = Over (Refused 8) (countsBack c)
+codeOpened r c Done = Over (DoneH Converged) (countsBack c)
+codeOpened r c (Failed x) = Over (FailedH x) (countsBack c)
 
 abbrev codeTurned : Bool → ℕ → ℕ → Counts → (Scalars → Scalars) → TurnedE → Stepped
 codeTurned b r k c g (More w) = cond b (Going (pausedAt (Solving (k + 1)) r c w)) (searchFrom r c (g w))
 codeTurned b r k c g (Stop w) = searchFrom r c (g w)
 
 abbrev codeTried : Bool → Bool → ℕ → ℕ → Counts → TriedE → Stepped
-codeTried b b′ r j c (Accept w) = cond b (Going (pausedAt Opening (r + 1) c w)) (Over Limit (countsBack c))
-codeTried b b′ r j c (Halve w) = cond b′ (Going (pausedAt (Searching (j + 1)) r c w)) (Over (Refused 7) (countsBack c))
+codeTried b b′ r j c (Accept w) = cond b (Going (pausedAt Opening (r + 1) c w)) (Over (DoneH Limit) (countsBack c))
+codeTried b b′ r j c (Halve w) = cond b′ (Going (pausedAt (Searching (j + 1)) r c w)) (Over (FailedH Search) (countsBack c))
 
 module _ (sh : Sizes) (tm : Terms) (tol : Float) (x : List Float) (r : ℕ) (c : Counts) (e m : List Float) where
-  after-opened : (q : Opened Data) (o : OpenedE) → DidOpen sh e q o m → Did sh e (afterOpening r c q) (codeOpened r c o) m
+  after-opened : (q : Opened Failure Data) (o : OpenedE) → DidOpen sh e q o m → Did sh e (afterOpening r c q) (codeOpened r c o) m
   unfolding afterOpening openedRes openedData answer leftData pausedOf dataOf howOf
   after-opened (ready (held a v)) o d = record { is = ap (codeOpened r c) (d .is); left = d .left }
   after-opened (done (held a v)) o d = record { is = ap (codeOpened r c) (d .is); left = d .left }
-  after-opened (tiny (held a v)) o d = record { is = ap (codeOpened r c) (d .is); left = d .left }
+  after-opened (fails x′ (held a v)) o d = record { is = ap (codeOpened r c) (d .is); left = d .left }
 
   after-turned : (k : ℕ) (b : Bool) → ltb k 4999 ≡ b → (q : Turned Data) (o : TurnedE) → DidTurn sh e q o m →
       Did sh e (afterTurn (parts sh tm tol x) r k c q) (codeTurned b r k c (λ w. aimBy sh tm w (vars sh m)) o) m
@@ -82,11 +87,11 @@ module _ (sh : Sizes) (tm : Terms) (tol : Float) (x : List Float) (M r : ℕ) (c
     pub opening-ready : {w : Scalars} → o ≡ Ready w → Did sh e (step (parts sh tm tol x) M (opening r c (held a v))) (Going (pausedAt (Solving 1) r (round+ c) w)) m
     opening-ready q = told opening-by (rw q)
 
-    pub opening-done : o ≡ Done → Did sh e (step (parts sh tm tol x) M (opening r c (held a v))) (Over Converged (countsBack (round+ c))) m
+    pub opening-done : o ≡ Done → Did sh e (step (parts sh tm tol x) M (opening r c (held a v))) (Over (DoneH Converged) (countsBack (round+ c))) m
     opening-done q = told opening-by (rw q)
 
-    pub opening-tiny : o ≡ Tiny → Did sh e (step (parts sh tm tol x) M (opening r c (held a v))) (Over (Refused 8) (countsBack (round+ c))) m
-    opening-tiny q = told opening-by (rw q)
+    pub opening-fails : {y : Failure} → o ≡ Failed y → Did sh e (step (parts sh tm tol x) M (opening r c (held a v))) (Over (FailedH y) (countsBack (round+ c))) m
+    opening-fails q = told opening-by (rw q)
 
   module _ (k : ℕ) {o : TurnedE} (d : DidTurn sh e (turns sh k (held a v)) o m) where
     solving-by : (b : Bool) → ltb k 4999 ≡ b →
@@ -117,7 +122,7 @@ module _ (sh : Sizes) (tm : Terms) (tol : Float) (x : List Float) (M r : ℕ) (c
     searching-again q z h = told (searching-by (ltb (r + 1) M) true refl (lt-ltb (j + 1) 100 h)) (rw (z, q))
 
     pub searching-none : {w : Scalars} → o ≡ Halve w → 100 ≤ j + 1 →
-        Did sh e (step (parts sh tm tol x) M (searching r j c (held a v))) (Over (Refused 7) (countsBack (trial+ c))) m
+        Did sh e (step (parts sh tm tol x) M (searching r j c (held a v))) (Over (FailedH Search) (countsBack (trial+ c))) m
     searching-none q h = told (searching-by (ltb (r + 1) M) false refl (le-ltb (j + 1) 100 h)) (rw q)
 
     pub searching-next : {w : Scalars} → o ≡ Accept w → r + 1 < M →
@@ -125,5 +130,5 @@ module _ (sh : Sizes) (tm : Terms) (tol : Float) (x : List Float) (M r : ℕ) (c
     searching-next q h = told (searching-by true (ltb (j + 1) 100) (lt-ltb (r + 1) M h) refl) (rw q)
 
     pub searching-limit : {w : Scalars} → o ≡ Accept w → M ≤ r + 1 →
-        Did sh e (step (parts sh tm tol x) M (searching r j c (held a v))) (Over Limit (countsBack (trial+ c))) m
+        Did sh e (step (parts sh tm tol x) M (searching r j c (held a v))) (Over (DoneH Limit) (countsBack (trial+ c))) m
     searching-limit q h = told (searching-by false (ltb (j + 1) 100) (le-ltb (r + 1) M h) refl) (rw q)

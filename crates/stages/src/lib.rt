@@ -1,4 +1,4 @@
-// The paused record, and one step of each stage.
+// One step of each stage.
 use lasso_optimizer::Opened;
 use lasso_optimizer::Scalars;
 use lasso_optimizer::Tried;
@@ -6,6 +6,14 @@ use lasso_optimizer::Turned;
 use layout::Places;
 use layout::Sizes;
 use opening::open;
+use records::Counts;
+use records::Paused;
+use records::Rounds;
+use records::SolverRounds;
+use records::Stage;
+use records::Trials;
+use refusal::Failure;
+use refusal::Way;
 use settings::Terms;
 use solver_round::aim;
 use solver_round::turn;
@@ -18,41 +26,13 @@ ghost use Rattle.layout.specs.Slots.{Room, vars, rest};
 ghost use Rattle.lasso_optimizer.specs.Data.{held};
 ghost use Rattle.lasso_optimizer.specs.Fit.{parts};
 ghost use Rattle.lasso_optimizer.specs.Solving.{aimBy};
-ghost use Rattle.stages.specs.Stage.{countsOf, turnedIn, triedIn, searchFrom, Did, OpeningIn, SolvingIn, SearchingIn};
+ghost use Rattle.records.specs.Record.{countsOf, OpeningIn, SolvingIn, SearchingIn};
+ghost use Rattle.stages.specs.Stage.{turnedIn, triedIn, searchFrom, Did};
 
-// Rounds opened, solver rounds made, trials made: each a type of its own, so that none stands in for another.
-pub struct Rounds(pub u64);
-
-pub struct SolverRounds(pub u64);
-
-pub struct Trials(pub u64);
-
-pub struct Counts {
-    pub rounds: Rounds,
-    pub solver: SolverRounds,
-    pub trials: Trials,
-}
-
-// A round is to be opened; the solver's round, from 1, is to be made; so many trials were made.
-pub enum Stage {
-    Opening,
-    Solving(u64),
-    Searching(u64),
-    Ended,
-}
-
-pub struct Paused {
-    pub stage: Stage,
-    pub round: u64,
-    pub counts: Counts,
-    pub scalars: Scalars,
-}
-
-// How a fit ends; a refusal by its number.
+// How a fit ends.
 pub enum How {
-    Converged,
-    Limit,
-    Refused(u64),
+    Done(Way),
+    Failed(Failure),
 }
 
 pub enum Stepped {
@@ -60,6 +40,7 @@ pub enum Stepped {
     Over(How, Counts),
 }
 
+// The scalars that a solver round leaves, whether it stops or not.
 fn scalars_in(o: Turned) -> Scalars
     ensures { λ r. ⌜ r ≡ turnedIn o ⌝ }
 {
@@ -69,6 +50,7 @@ fn scalars_in(o: Turned) -> Scalars
     }
 }
 
+// The scalars that a trial leaves, whether it is taken or not.
 fn scalars_of(o: Tried) -> Scalars
     ensures { λ r. ⌜ r ≡ triedIn o ⌝ }
 {
@@ -78,6 +60,7 @@ fn scalars_of(o: Tried) -> Scalars
     }
 }
 
+// Opens round r, which is counted however it ends: the solver is ready for its first round, or the fit has converged or failed.
 pub fn opening_step(
     m: &[f64],
     sh: Sizes,
@@ -90,8 +73,11 @@ pub fn opening_step(
     c: Counts,
     a: Scalars,
 ) -> Stepped
-    requires { ⌜ Held sh l (now m) (now s) × (OpeningIn limit r (countsOf c) × (limit ≤ 1000)) ⌝ }
-    ensures { λ o. ⌜ Did sh (rest sh (now (s .entry))) (step (parts sh tm tol (now (m .entry))) limit (opening r (countsOf c) (held a (vars sh (now (s .entry)))))) o (now (s .exit)) ⌝ }
+    requires { ⌜ Held sh l (now m) (now s) ⌝ }
+    requires { ⌜ OpeningIn limit r (countsOf c) ⌝ }
+    requires { ⌜ limit ≤ 1000 ⌝ }
+    ensures { λ o. ⌜ Did sh (rest sh (now (s .entry))) (step (parts sh tm tol (now (m .entry))) limit
+        (opening r (countsOf c) (held a (vars sh (now (s .entry)))))) o (now (s .exit)) ⌝ }
 {
     let n = c.rounds;
     let b = c.solver;
@@ -108,8 +94,8 @@ pub fn opening_step(
             counts: d,
             scalars: w,
         }),
-        Opened::Done => Stepped::Over(How::Converged, d),
-        Opened::Tiny => Stepped::Over(How::Refused(8), d),
+        Opened::Done => Stepped::Over(How::Done(Way::Converged), d),
+        Opened::Failed(f) => Stepped::Over(How::Failed(f), d),
     }
 }
 
@@ -135,6 +121,7 @@ fn search_begins(
     })
 }
 
+// Makes the solver's round k. Where it stops, or is round 4,999, the search begins in the same step.
 pub fn solving_step(
     m: &[f64],
     sh: Sizes,
@@ -148,8 +135,11 @@ pub fn solving_step(
     c: Counts,
     a: Scalars,
 ) -> Stepped
-    requires { ⌜ Held sh l (now m) (now s) × (SolvingIn limit r k (countsOf c) × (limit ≤ 1000)) ⌝ }
-    ensures { λ o. ⌜ Did sh (rest sh (now (s .entry))) (step (parts sh tm tol (now (m .entry))) limit (solving r k (countsOf c) (held a (vars sh (now (s .entry)))))) o (now (s .exit)) ⌝ }
+    requires { ⌜ Held sh l (now m) (now s) ⌝ }
+    requires { ⌜ SolvingIn limit r k (countsOf c) ⌝ }
+    requires { ⌜ limit ≤ 1000 ⌝ }
+    ensures { λ o. ⌜ Did sh (rest sh (now (s .entry))) (step (parts sh tm tol (now (m .entry))) limit
+        (solving r k (countsOf c) (held a (vars sh (now (s .entry)))))) o (now (s .exit)) ⌝ }
 {
     let n = c.rounds;
     let b = c.solver;
@@ -160,9 +150,9 @@ pub fn solving_step(
         trials: t,
     };
     let o = turn(s, sh, l, k, a);
-    let w = scalars_in(o);
     let Turned::More(next) = o else {
-        return search_begins(s, sh, tm, l, r, d, w);
+        let last = scalars_in(o);
+        return search_begins(s, sh, tm, l, r, d, last);
     };
     if k < 4999 {
         return Stepped::Going(Paused {
@@ -175,6 +165,7 @@ pub fn solving_step(
     search_begins(s, sh, tm, l, r, d, next)
 }
 
+// Makes a trial after j others. One that is taken leads to the next round or the limit; one that is not halves the step, and the hundredth fails.
 pub fn searching_step(
     m: &[f64],
     sh: Sizes,
@@ -188,8 +179,11 @@ pub fn searching_step(
     c: Counts,
     a: Scalars,
 ) -> Stepped
-    requires { ⌜ Held sh l (now m) (now s) × (SearchingIn limit r j (countsOf c) × (limit ≤ 1000)) ⌝ }
-    ensures { λ o. ⌜ Did sh (rest sh (now (s .entry))) (step (parts sh tm tol (now (m .entry))) limit (searching r j (countsOf c) (held a (vars sh (now (s .entry)))))) o (now (s .exit)) ⌝ }
+    requires { ⌜ Held sh l (now m) (now s) ⌝ }
+    requires { ⌜ SearchingIn limit r j (countsOf c) ⌝ }
+    requires { ⌜ limit ≤ 1000 ⌝ }
+    ensures { λ o. ⌜ Did sh (rest sh (now (s .entry))) (step (parts sh tm tol (now (m .entry))) limit
+        (searching r j (countsOf c) (held a (vars sh (now (s .entry)))))) o (now (s .exit)) ⌝ }
 {
     let n = c.rounds;
     let b = c.solver;
@@ -200,17 +194,17 @@ pub fn searching_step(
         trials: Trials(t.0 + 1),
     };
     let o = attempt(m, sh, tm, s, l, a);
-    let w = scalars_of(o);
     let Tried::Accept(next) = o else {
         if j + 1 < 100 {
+            let halved = scalars_of(o);
             return Stepped::Going(Paused {
                 stage: Stage::Searching(j + 1),
                 round: r,
                 counts: d,
-                scalars: w,
+                scalars: halved,
             });
         }
-        return Stepped::Over(How::Refused(7), d);
+        return Stepped::Over(How::Failed(Failure::Search), d);
     };
     if r + 1 < limit {
         return Stepped::Going(Paused {
@@ -220,5 +214,5 @@ pub fn searching_step(
             scalars: next,
         });
     }
-    Stepped::Over(How::Limit, d)
+    Stepped::Over(How::Done(Way::Limit), d)
 }

@@ -9,10 +9,11 @@ use Rattle.layout.specs.declared.Sizes.{Sizes}
 use Rattle.layout.specs.Slots.{Store}
 use Rattle.lasso_optimizer.specs.Data.{held}
 use Rattle.lasso_optimizer.specs.Fit.{parts}
-use Rattle.stages.specs.declared.Paused.{Paused}
-use Rattle.stages.specs.declared.Stage.{Stage}
+use Rattle.records.specs.declared.Paused.{Paused}
+use Rattle.records.specs.declared.Stage.{Stage}
 use Rattle.stages.specs.declared.Stepped.{Stepped}
-use Rattle.stages.specs.Stage.{Did, countsOf, stateOf, stateAt, Sane, SaneAt}
+use Rattle.records.specs.Record.{countsOf, stateOf, stateAt, Sane, SaneAt}
+use Rattle.stages.specs.Stage.{Did}
 
 module _ {g : Stage} (a : Paused) (q : a .stage ≡ g) where
   -- what the step of the stage did, it did to the record

@@ -6,6 +6,7 @@ use mathlib.Core.List.{List}
 use lib.Dec.{lit<, lit≤}
 use lib.ListN.{length}
 use lib.Ieee.{Float}
+use Rattle.refusal.specs.declared.Failure.{Failure}
 use Rattle.pause.specs.Progress.{Progress, over, going, then, run, Always, Any}
 use Rattle.pause.specs.Parts.{Counts, round+, solver+, trial+, End, end}
 use Rattle.pause.specs.Paused.{State, dataOf, step}
@@ -13,18 +14,20 @@ use Rattle.pause.proofs.Cases.{Cases, step-cases}
 use Rattle.settings.specs.declared.Terms.{Terms}
 use Rattle.layout.specs.declared.Sizes.{Sizes}
 use Rattle.layout.specs.declared.Places.{Places}
-use Rattle.layout.specs.Slots.{Room, Store, Has, vars, rest, start, vars-of, rest-of, words}
+use Rattle.layout.specs.Slots.{Room, Store, Has, vars, rest, words}
+use Rattle.layout.proofs.Slots.{start, vars-of, rest-of}
 use Rattle.lasso_optimizer.specs.Data.{Data, held, storeOf}
 use Rattle.lasso_optimizer.specs.Fit.{parts}
-use Rattle.stages.specs.declared.Paused.{Paused}
-use Rattle.stages.specs.declared.Counts.{Counts as CountsE}
+use Rattle.records.specs.declared.Paused.{Paused}
+use Rattle.records.specs.declared.Counts.{Counts as CountsE}
 use Rattle.stages.specs.declared.How.{How}
-use Rattle.stages.specs.declared.Stage.{Stage}
-use Rattle.stages.specs.declared.Stage.the-variants.{Opening, Solving, Searching, Ended}
+use Rattle.records.specs.declared.Stage.{Stage}
+use Rattle.records.specs.declared.Stage.the-variants.{Opening, Solving, Searching, Ended}
 use Rattle.stages.specs.declared.Stepped.{Stepped}
 use Rattle.stages.specs.declared.Stepped.the-variants.{Going, Over}
-use Rattle.stages.specs.Stage.{Did, countsOf, answer, leftData, pausedOf, stateOf, stateAt, Sane, SaneAt}
-use Rattle.stages.proofs.Back.{state-back, paused-back, store-back}
+use Rattle.records.specs.Record.{countsOf, pausedOf, stateOf, stateAt, Sane, SaneAt}
+use Rattle.stages.specs.Stage.{Did, answer, leftData}
+use Rattle.records.proofs.Back.{state-back, paused-back, store-back}
 
 sub-one : (n : ℕ) → suc n - 1 ≡ n
 sub-one n = omega arith
@@ -32,7 +35,7 @@ sub-one n = omega arith
 going-not-over : {a : Paused} {w : How} {c : CountsE} → Going a ≡ Over w c → ⊥
 going-not-over q = let z : _≡_ {A = ℕ} 0 1 = cc in omega arith
 
-not-over : (x : End Data) (a : Paused) → Going a ≡ answer (over x) → ⊥
+not-over : (x : End Failure Data) (a : Paused) → Going a ≡ answer (over x) → ⊥
 unfolding answer
 not-over (end h c d) a q = going-not-over q
 
@@ -40,7 +43,7 @@ abbrev SaneState : ℕ → State Data → Type 0
 SaneState M x = Sane M (pausedOf x)
 
 module _ (sh : Sizes) (tm : Terms) (tol : Float) (x : List Float) (M : ℕ) where
-  abbrev one : State Data → Progress (End Data) (State Data)
+  abbrev one : State Data → Progress (End Failure Data) (State Data)
   one = step (parts sh tm tol x) M
 
   sane-at-cases : (g : Stage) (r : ℕ) (c : Counts) (d : Data) → SaneAt g M r c → Cases (parts sh tm tol x) M (SaneState M) Any (stateAt g r c d)
@@ -49,7 +52,7 @@ module _ (sh : Sizes) (tm : Terms) (tol : Float) (x : List Float) (M : ℕ) wher
       record {
         on-ready = λ t q. record { inside = h .inside; first = lit≤ tt; last = lit≤ tt; opened-all = omega arith; solver-in = omega arith; trials-in = omega arith };
         on-done = λ t q. tt;
-        on-tiny = λ t q. tt;
+        on-fails = λ x t q. tt;
       }
   sane-at-cases (Solving k) r c d h =
       record {
@@ -78,13 +81,13 @@ module _ (sh : Sizes) (tm : Terms) (tol : Float) (x : List Float) (M : ℕ) wher
   run-going zero y z q h = absurd (omega arith)
   run-going (suc n) y z q h = rw (q, sub-one n)
 
-  run-over : (n : ℕ) (y : State Data) (e : End Data) → one y ≡ over e → 0 < n → run one n y ≡ over e
+  run-over : (n : ℕ) (y : State Data) (e : End Failure Data) → one y ≡ over e → 0 < n → run one n y ≡ over e
   unfolding run then
   run-over zero y e q h = absurd (omega arith)
   run-over (suc n) y e q h = rw q
 
   module _ (budget : ℕ) (rec₀ : Paused) (m₀ : List Float) where
-    abbrev whole : Progress (End Data) (State Data)
+    abbrev whole : Progress (End Failure Data) (State Data)
     whole = run (step (parts sh tm tol x) M) budget (stateOf rec₀ (vars sh m₀))
 
     -- `left` steps from here are the whole budget's from the start
@@ -99,7 +102,7 @@ module _ (sh : Sizes) (tm : Terms) (tol : Float) (x : List Float) (M : ℕ) wher
     unfolding answer leftData
     went-on left cur nxt m m′ h g l {o} q d = go (one (stateOf cur (vars sh m))) refl
       where
-        go : (p : Progress (End Data) (State Data)) → one (stateOf cur (vars sh m)) ≡ p → Running (left - 1) nxt m′
+        go : (p : Progress (End Failure Data) (State Data)) → one (stateOf cur (vars sh m)) ≡ p → Running (left - 1) nxt m′
         go (over e) y = absurd (not-over e nxt (sym q ∙ rw y at (d .is)))
         go (going z) y =
             let after : Sane M (pausedOf z) = rw y at (step-sane cur (vars sh m) (g .sane)) in
@@ -118,7 +121,7 @@ module _ (sh : Sizes) (tm : Terms) (tol : Float) (x : List Float) (M : ℕ) wher
     unfolding answer
     stopped left cur m m′ h g {o} q d = go (one (stateOf cur (vars sh m))) refl
       where
-        go : (p : Progress (End Data) (State Data)) → one (stateOf cur (vars sh m)) ≡ p → Did sh (rest sh m₀) whole o m′
+        go : (p : Progress (End Failure Data) (State Data)) → one (stateOf cur (vars sh m)) ≡ p → Did sh (rest sh m₀) whole o m′
         go (over e) y = rw (sym (g .same) ∙ (run-over left (stateOf cur (vars sh m)) e y h ∙ sym y), sym (g .excess)) d
         go (going z) y = absurd (going-not-over (sym (rw y at (d .is)) ∙ q))
 

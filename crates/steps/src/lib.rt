@@ -1,9 +1,9 @@
 // One step of a paused fit, and steps up to a budget.
 use layout::Places;
 use layout::Sizes;
+use records::Paused;
+use records::Stage;
 use settings::Terms;
-use stages::Paused;
-use stages::Stage;
 use stages::Stepped;
 use stages::opening_step;
 use stages::searching_step;
@@ -14,8 +14,10 @@ ghost use Rattle.pause.specs.Paused.{step};
 ghost use Rattle.design.specs.Mode.{Held};
 ghost use Rattle.layout.specs.Slots.{vars, rest};
 ghost use Rattle.lasso_optimizer.specs.Fit.{parts};
-ghost use Rattle.stages.specs.Stage.{stateOf, Did, Sane};
+ghost use Rattle.records.specs.Record.{stateOf, Sane};
+ghost use Rattle.stages.specs.Stage.{Did};
 
+// One step of the stage that the record is in. The arm for a record that has ended is never reached.
 pub fn one_step(
     m: &[f64],
     sh: Sizes,
@@ -26,8 +28,11 @@ pub fn one_step(
     l: Places,
     rec: Paused,
 ) -> Stepped
-    requires { ⌜ Held sh l (now m) (now s) × (Sane limit rec × (limit ≤ 1000)) ⌝ }
-    ensures { λ o. ⌜ Did sh (rest sh (now (s .entry))) (step (parts sh tm tol (now (m .entry))) limit (stateOf rec (vars sh (now (s .entry))))) o (now (s .exit)) ⌝ }
+    requires { ⌜ Held sh l (now m) (now s) ⌝ }
+    requires { ⌜ Sane limit rec ⌝ }
+    requires { ⌜ limit ≤ 1000 ⌝ }
+    ensures { λ o. ⌜ Did sh (rest sh (now (s .entry))) (step (parts sh tm tol (now (m .entry))) limit (stateOf rec (vars sh (now (s .entry))))) o
+        (now (s .exit)) ⌝ }
 {
     let stage = rec.stage;
     let c = rec.counts;
@@ -40,6 +45,7 @@ pub fn one_step(
     }
 }
 
+// Steps until the fit is over or the budget is spent. With a budget of 0 the record comes back as it was.
 pub fn run_steps(
     m: &[f64],
     sh: Sizes,
@@ -51,8 +57,11 @@ pub fn run_steps(
     rec: Paused,
     budget: u64,
 ) -> Stepped
-    requires { ⌜ Held sh l (now m) (now s) × (Sane limit rec × (limit ≤ 1000)) ⌝ }
-    ensures { λ o. ⌜ Did sh (rest sh (now (s .entry))) (run (step (parts sh tm tol (now (m .entry))) limit) budget (stateOf rec (vars sh (now (s .entry))))) o (now (s .exit)) ⌝ }
+    requires { ⌜ Held sh l (now m) (now s) ⌝ }
+    requires { ⌜ Sane limit rec ⌝ }
+    requires { ⌜ limit ≤ 1000 ⌝ }
+    ensures { λ o. ⌜ Did sh (rest sh (now (s .entry))) (run (step (parts sh tm tol (now (m .entry))) limit) budget
+        (stateOf rec (vars sh (now (s .entry))))) o (now (s .exit)) ⌝ }
 {
     let mut cur = rec;
     let mut left = budget;

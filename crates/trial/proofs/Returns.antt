@@ -9,7 +9,8 @@ use Rattle.arrays.specs.Sums.{dotOf, sumOf, plus0}
 use Rattle.settings.specs.declared.Terms.{Terms}
 use Rattle.layout.specs.declared.Sizes.{Sizes}
 use Rattle.layout.specs.declared.Places.{Places}
-use Rattle.layout.specs.Slots.{Store, Has, Laid, vars, rest, got, next, vars-of, rest-of}
+use Rattle.layout.specs.Slots.{Store, Has, Laid, vars, rest}
+use Rattle.layout.proofs.Slots.{got, next, vars-of, rest-of}
 use Rattle.layout.specs.Slots.{Slot.NEWF}
 use Rattle.line_search.specs.Search.{largestOf, sumlognegOf, phiOf, decreases}
 use Rattle.lasso_optimizer.specs.declared.Scalars.{Scalars}

@@ -6,12 +6,15 @@ use native.Mathlib.Nat.{add-zero}
 use native.Mathlib.Omega.{arith}
 use lib.Ieee.{Float}
 use Rattle.numbers.specs.Ops.{_⊕_, _⊖_, _⊗_}
-use Rattle.arrays.specs.Part.{part, put, part-part}
-use Rattle.arrays.specs.Vectors.{zipOf, length-zip}
+use Rattle.arrays.specs.Part.{part, put}
+use Rattle.arrays.proofs.Part.{part-part}
+use Rattle.arrays.specs.Vectors.{zipOf}
+use Rattle.arrays.proofs.Lengths.{length-zip}
 use Rattle.settings.specs.declared.Terms.{Terms}
 use Rattle.layout.specs.declared.Sizes.{Sizes}
 use Rattle.layout.specs.declared.Places.{Places}
-use Rattle.layout.specs.Slots.{Store, Has, Laid, vars, then}
+use Rattle.layout.specs.Slots.{Store, Has, Laid, vars}
+use Rattle.layout.proofs.Slots.{then}
 use Rattle.layout.specs.Slots.{Slot.W, Slot.U, Slot.NEWW, Slot.NEWU, Slot.F, Slot.NEWF, Slot.DXU, Slot.Y, Slot.NEWZ}
 use Rattle.design.specs.Mode.{matvecOf, Held}
 use Rattle.design.proofs.Lengths.{length-matvec}

@@ -17,7 +17,7 @@ use line_search::sumlogneg;
 use settings::Terms;
 ghost use mathlib.Core.Path.{_≡_};
 ghost use Rattle.design.specs.Mode.{Held};
-ghost use Rattle.layout.specs.Slots.{Room, Has, vars, rest};
+ghost use Rattle.layout.specs.Slots.{Room, vars, rest, Makes};
 ghost use Rattle.lasso_optimizer.specs.Data.{held};
 ghost use Rattle.lasso_optimizer.specs.Trial.{movedStore, newzStore, newphiOf, takenStore, halved, decideBy, tries};
 ghost use Rattle.lasso_optimizer.specs.Fit.{DidTry};
@@ -25,21 +25,23 @@ ghost use Rattle.lasso_optimizer.specs.Fit.{DidTry};
 // neww, newu and newf, a step along the direction.
 fn move_on(s: &mut [f64], sh: Sizes, l: Places, step: f64)
     requires { ⌜ Room sh l (now s) ⌝ }
-    ensures { λ _. ⌜ Has sh (rest sh (now (s .entry))) (movedStore sh step (vars sh (now (s .entry)))) (now (s .exit)) ⌝ }
+    ensures { λ _. ⌜ Makes sh (movedStore sh step) (now (s .entry)) (now (s .exit)) ⌝ }
 {
     add_scaled(s, l.neww, l.w, step, l.dxu, sh.p);
     add_scaled(s, l.newu, l.u, step, l.dxu + sh.p, sh.p);
     faces(s, l.newf, l.neww, l.newu, sh.p);
 }
 
+// newz: the design times the new weights, less the targets.
 fn residuals(m: &[f64], sh: Sizes, tm: Terms, s: &mut [f64], l: Places)
     requires { ⌜ Held sh l (now m) (now s) ⌝ }
-    ensures { λ _. ⌜ Has sh (rest sh (now (s .entry))) (newzStore sh tm (now (m .entry)) (vars sh (now (s .entry)))) (now (s .exit)) ⌝ }
+    ensures { λ _. ⌜ Makes sh (newzStore sh tm (now (m .entry))) (now (s .entry)) (now (s .exit)) ⌝ }
 {
     matvec(m, sh, tm, s, l, l.neww, l.newz);
     sub(s, l.newz, l.newz, l.y, sh.k);
 }
 
+// phi at the new point.
 fn newphi(s: &[f64], sh: Sizes, tm: Terms, l: Places, t: f64) -> f64
     requires { ⌜ Room sh l (now s) ⌝ }
     ensures { λ r. ⌜ r ≡ newphiOf sh tm t (vars sh (now (s .entry))) ⌝ }
@@ -50,10 +52,10 @@ fn newphi(s: &[f64], sh: Sizes, tm: Terms, l: Places, t: f64) -> f64
     phi(tm.lambda, t, zz, sumu, logs)
 }
 
-// w, u and f are renewed.
+// The new point becomes the current one: w, u and f.
 fn take(s: &mut [f64], sh: Sizes, l: Places)
     requires { ⌜ Room sh l (now s) ⌝ }
-    ensures { λ _. ⌜ Has sh (rest sh (now (s .entry))) (takenStore (vars sh (now (s .entry)))) (now (s .exit)) ⌝ }
+    ensures { λ _. ⌜ Makes sh takenStore (now (s .entry)) (now (s .exit)) ⌝ }
 {
     copy(s, l.w, l.neww, sh.p);
     copy(s, l.u, l.newu, sh.p);
@@ -66,7 +68,7 @@ fn half_step(a: Scalars) -> Scalars
     Scalars { s: 0.5 * a.s, ..a }
 }
 
-// The decrease is tested, where the largest of newf is below 0.
+// A new point inside its bounds: it is taken where phi decreases enough, else the step is halved.
 fn decide(m: &[f64], sh: Sizes, tm: Terms, s: &mut [f64], l: Places, a: Scalars) -> Tried
     requires { ⌜ Held sh l (now m) (now s) ⌝ }
     ensures { λ o. ⌜ DidTry sh (rest sh (now (s .entry))) (decideBy a (newphiOf sh tm (a .t) (newzStore sh tm (now (m .entry)) (vars sh (now (s .entry)))))
@@ -81,6 +83,7 @@ fn decide(m: &[f64], sh: Sizes, tm: Terms, s: &mut [f64], l: Places, a: Scalars)
     Tried::Halve(half_step(a))
 }
 
+// One trial, with the step that the scalars have. A new point that is not inside its bounds is not weighed: the step is halved.
 pub fn attempt(m: &[f64], sh: Sizes, tm: Terms, s: &mut [f64], l: Places, a: Scalars) -> Tried
     requires { ⌜ Held sh l (now m) (now s) ⌝ }
     ensures { λ o. ⌜ DidTry sh (rest sh (now (s .entry))) (tries sh tm (now (m .entry)) (held a (vars sh (now (s .entry))))) o (now (s .exit)) ⌝ }

@@ -7,6 +7,7 @@ use native.Mathlib.Omega.{arith}
 use borrow.Author.Tests.{ne-eqb}
 use lib.Dec.{eqb}
 use lib.Ieee.{Float}
+use Rattle.refusal.specs.declared.Failure.{Failure}
 use Rattle.numbers.specs.Ops.{_⊗_}
 use Rattle.matrices.specs.Products.{columnsOf}
 use Rattle.settings.specs.declared.Settings.{Settings}
@@ -35,7 +36,7 @@ use Rattle.smartcore.specs.LazyNormalization.{matvec}
 use Rattle.smartcore.proofs.Reciprocal.{reciprocals, rows-are, columns-are}
 use Rattle.unbroken_fit.specs.Unbroken.{fitOf, countsOf, pointOf, told}
 use Rattle.unbroken_fit.proofs.Solver.{Fixed, fixedIn}
-use Rattle.unbroken_fit.proofs.Round.{varsOf, lastIn, Known, Ends, RoundBy, matvecAt, roundIn, round-is}
+use Rattle.unbroken_fit.proofs.Round.{varsOf, lastIn, Ends, RoundBy, matvecAt, roundIn, round-is}
 
 module _ (sh : Sizes) (tm : Terms) (tol : Float) (m : List Float) where
   -- the product with its transpose
@@ -49,7 +50,7 @@ module _ (sh : Sizes) (tm : Terms) (tol : Float) (m : List Float) where
   then-is : (x : Fixed) (f r : ℕ)
       → ((c : CountsP) (d : Data)
       → Ends (fixedIn (storeOf d)) (close (manyRounds (parts sh tm tol m) f r (work c d))) (roundsAt (isLazy sh) (fixedIn (storeOf d)) f r (varsOf c d)))
-      → (o : Progress (End Data) (Work Data)) (n : Next) → RoundBy x o n
+      → (o : Progress (End Failure Data) (Work Data)) (n : Next) → RoundBy x o n
       → Ends x (close (then o (manyRounds (parts sh tm tol m) f r))) (elim n [
         | on v ↦ roundsAt (isLazy sh) x f r v
         | out e ↦ e
@@ -57,16 +58,16 @@ module _ (sh : Sizes) (tm : Terms) (tol : Float) (m : List Float) where
   unfolding then close
   then-is x f r rec o (on v) h =
       let u = close (manyRounds (parts sh tm tol m) f r (work (h .counts) (h .left))) in
-      subst (λ (o′ : Progress (End Data) (Work Data)). Ends x (close (then o′ (manyRounds (parts sh tm tol m) f r))) (roundsAt (isLazy sh) x f r v)) (sym (h .is))
+      subst (λ (o′ : Progress (End Failure Data) (Work Data)). Ends x (close (then o′ (manyRounds (parts sh tm tol m) f r))) (roundsAt (isLazy sh) x f r v)) (sym (h .is))
       (subst (λ (w : Vars). Ends x u (roundsAt (isLazy sh) x f r w)) (h .vars)
       (subst (λ (y : Fixed). Ends y u (roundsAt (isLazy sh) y f r (varsOf (h .counts) (h .left)))) (h .same) (rec (h .counts) (h .left))))
   then-is x f r rec o (out e) h =
-      subst (λ (o′ : Progress (End Data) (Work Data)). Ends x (close (then o′ (manyRounds (parts sh tm tol m) f r))) e) (sym (h .is)) (h .ends)
+      subst (λ (o′ : Progress (End Failure Data) (Work Data)). Ends x (close (then o′ (manyRounds (parts sh tm tol m) f r))) e) (sym (h .is)) (h .ends)
 
   rounds-are : (f r : ℕ) (c : CountsP) (d : Data)
       → Ends (fixedIn (storeOf d)) (close (manyRounds (parts sh tm tol m) f r (work c d))) (roundsAt (isLazy sh) (fixedIn (storeOf d)) f r (varsOf c d))
   unfolding manyRounds rounds close told pointOf matvecOf transposedOf
-  rounds-are zero r c (held a v) = record { says = refl; same = refl; known = tt }
+  rounds-are zero r c (held a v) = record { says = refl; same = refl }
   rounds-are (suc f) r c (held a v) =
       then-is (fixedIn v) f (r + 1) (rounds-are f (r + 1)) (oneRound (parts sh tm tol m) r (work c (held a v))) (roundIn sh tm tol m r c a v) (round-is sh tm tol m r c a v)
 
@@ -89,15 +90,14 @@ module _ (n p : ℕ) (x y : List Float) (st : Settings) where
   abbrev pub eagerSizes : Sizes
   eagerSizes = record { n = n; p = p; k = n + p; rows = n + p; pr = 0; pc = 0 }
 
-  abbrev pub endWith : Sizes → End Data
+  abbrev pub endWith : Sizes → End Failure Data
   endWith sh = optimized sh (termsOf st n) (st .tol) x (st .rounds) (startStore sh (st .normalise) (termsOf st n) x y)
 
   -- the fixed vectors that the end of a fit is told by
-  pub record Fits (u : End Data) (e : Fitted Point) : Type 0 where
+  pub record Fits (u : End Failure Data) (e : Fitted Point) : Type 0 where
     pub says : told u ≡ e
     pub centres : lastIn u CENTRE ≡ centresOf (st .normalise) x n p
     pub scales : lastIn u SCALE ≡ scalesOf (st .normalise) x n p
-    pub known : Known u
 
   -- a lazy fit by these products
   abbrev lazyBy : (List Float → List Float) → (List Float → List Float) → Fitted Point
@@ -117,7 +117,7 @@ module _ (n p : ℕ) (x y : List Float) (st : Settings) where
   unfolding startStore preparedStore lazyGramStore recipStore targetsStore statisticsStore blankStore fresh startT termsOf centredOf countsOf augmentY optimize _⟨_≔_⟩ upd
   stored-is =
       let h = optimized-is lazySizes (termsOf st n) (st .tol) x (st .rounds) (startStore lazySizes (st .normalise) (termsOf st n) x y) in
-      record { says = h .says; centres = ap (λ (f : Fixed). f .centre) (h .same); scales = ap (λ (f : Fixed). f .scale) (h .same); known = h .known }
+      record { says = h .says; centres = ap (λ (f : Fixed). f .centre) (h .same); scales = ap (λ (f : Fixed). f .scale) (h .same) }
 
   by-products : lazyIn ≡ optimizeLazy n p x y st
   unfolding optimizeLazy
@@ -146,7 +146,7 @@ module _ (n p : ℕ) (x y : List Float) (st : Settings) where
 
   eager-rounds : Ends (fixedIn (startAt false)) (endWith eagerSizes) (eagerAt false) → Fits (endWith eagerSizes) (optimizeEager n p x y st)
   unfolding gramStore designStore targetsStore statisticsStore blankStore fresh startT termsOf centredOf countsOf optimizeEager augmentY optimize _⟨_≔_⟩ upd
-  eager-rounds h = record { says = h .says; centres = ap (λ (f : Fixed). f .centre) (h .same); scales = ap (λ (f : Fixed). f .scale) (h .same); known = h .known }
+  eager-rounds h = record { says = h .says; centres = ap (λ (f : Fixed). f .centre) (h .same); scales = ap (λ (f : Fixed). f .scale) (h .same) }
 
   eager-is : 1 ≤ n → Fits (endWith eagerSizes) (optimizeEager n p x y st)
   unfolding startStore preparedStore

@@ -5,8 +5,10 @@ use mathlib.Core.List.{List}
 use Prim.Native.Nat.{ℕ, _+_, _*_}
 use native.Mathlib.Omega.{arith}
 use native.Mathlib.Decide.{ℕ-discrete}
-use lib.Dec.{T, eqb}
+use lib.Dec.{eqb}
 use lib.Ieee.{Float, lt, le}
+use Rattle.refusal.specs.declared.Failure.{Failure}
+use Rattle.refusal.specs.declared.Failure.the-variants.{Search, Tolerance}
 use Rattle.numbers.specs.Ops.{_⊕_, _⊖_, _⊗_, _⊘_}
 use Rattle.numbers.specs.Constants.{one}
 use Rattle.arrays.specs.Part.{part}
@@ -16,7 +18,8 @@ use Rattle.matrices.specs.Products.{rowsOf}
 use Rattle.settings.specs.declared.Terms.{Terms}
 use Rattle.layout.specs.declared.Sizes.{Sizes}
 use Rattle.layout.specs.Store.{upd}
-use Rattle.layout.specs.Slots.{Slot, Store, num, table, _⟨_≔_⟩, seen-same, seen-other}
+use Rattle.layout.specs.Slots.{Slot, Store, num, _⟨_≔_⟩}
+use Rattle.layout.proofs.Slots.{table, seen-same, seen-other}
 use Rattle.layout.specs.Slots.{Slot.W, Slot.U, Slot.F, Slot.D1, Slot.D2, Slot.PRB, Slot.PRS, Slot.DXU, Slot.GRAD, Slot.R, Slot.RR, Slot.ZS, Slot.PP, Slot.Y, Slot.NU, Slot.XNU, Slot.GRAM}
 use Rattle.bg_solver.specs.Solver.{begun}
 use Rattle.inner_solver.specs.Inner.{systemOf, withWork, beginStore, bnrmOf}
@@ -25,7 +28,7 @@ use Rattle.design.specs.Mode.{isLazy, matvecOf, transposedOf}
 use Rattle.newton.specs.Newton.{nextT, g1Of, gradOf, prsOf, tolerance}
 use Rattle.line_search.specs.Search.{sumlognegOf, phiOf}
 use Rattle.pause.specs.Progress.{Progress, over, going, then}
-use Rattle.pause.specs.Parts.{Opened, ready, done, tiny, Counts as CountsP, round+, End, end, converged as convergedP, limit as limitP, refused}
+use Rattle.pause.specs.Parts.{Opened, ready, done, fails, Counts as CountsP, round+, End, end, converged as convergedP, failed as failedP}
 use Rattle.pause.specs.Unbroken.{Work, work, openRound, solve, lineSearch, oneRound}
 use Rattle.lasso_optimizer.specs.declared.Scalars.{Scalars}
 use Rattle.lasso_optimizer.specs.Data.{Data, held, storeOf, opened, turned, stepped}
@@ -86,16 +89,10 @@ varsOf c (held a v) = record {
   counts = countsOf c;
 }
 
-abbrev pub lastIn : End Data → Store
+abbrev pub lastIn : End Failure Data → Store
 lastIn (end h c d) = storeOf d
 
--- a refusal of a fit is 7 or 8
-abbrev pub Known : End Data → Type 0
-Known (end convergedP c d) = Unit {0}
-Known (end limitP c d) = Unit {0}
-Known (end (refused k) c d) = T (eqb k 7 || eqb k 8)
-
-pub record GoesOn (fixed : Fixed) (o : Progress (End Data) (Work Data)) (v : Vars) : Type 0 where
+pub record GoesOn (fixed : Fixed) (o : Progress (End Failure Data) (Work Data)) (v : Vars) : Type 0 where
   pub counts : CountsP
   pub left : Data
   pub is : o ≡ going (work counts left)
@@ -103,17 +100,16 @@ pub record GoesOn (fixed : Fixed) (o : Progress (End Data) (Work Data)) (v : Var
   pub same : fixedIn (storeOf left) ≡ fixed
 
 -- an end and smartcore's, with the vectors that are fixed
-pub record Ends (fixed : Fixed) (last : End Data) (e : Fitted Point) : Type 0 where
+pub record Ends (fixed : Fixed) (last : End Failure Data) (e : Fitted Point) : Type 0 where
   pub says : told last ≡ e
   pub same : fixedIn (lastIn last) ≡ fixed
-  pub known : Known last
 
-pub record IsOver (fixed : Fixed) (o : Progress (End Data) (Work Data)) (e : Fitted Point) : Type 0 where
-  pub last : End Data
+pub record IsOver (fixed : Fixed) (o : Progress (End Failure Data) (Work Data)) (e : Fitted Point) : Type 0 where
+  pub last : End Failure Data
   pub is : o ≡ over last
   pub ends : Ends fixed last e
 
-abbrev pub RoundBy : Fixed → Progress (End Data) (Work Data) → Next → Type 0
+abbrev pub RoundBy : Fixed → Progress (End Failure Data) (Work Data) → Next → Type 0
 RoundBy fixed o (on v) = GoesOn fixed o v
 RoundBy fixed o (out e) = IsOver fixed o e
 
@@ -145,7 +141,7 @@ module _ (sh : Sizes) (tm : Terms) (tol : Float) (m : List Float) where
       counts = record { openings = r; solver = k; trials = trials };
     }
 
-    searched : (x : List Float) (fixed : Fixed) (pitr : ℕ) → pitrOf (a .missed) ≡ pitr → (o : Progress (End Data) (Work Data)) (s : Searched)
+    searched : (x : List Float) (fixed : Fixed) (pitr : ℕ) → pitrOf (a .missed) ≡ pitr → (o : Progress (End Failure Data) (Work Data)) (s : Searched)
         → SearchedBy sh tm tol m r k a x fixed o s → RoundBy fixed o (afterSearch x pitr s)
     unfolding countsOf told
     searched x fixed pitr e o (accepted s neww newu newf trials) h = record {
@@ -156,7 +152,7 @@ module _ (sh : Sizes) (tm : Terms) (tol : Float) (m : List Float) where
           ∙ ap (varsLeft s trials (record { w = neww; u = newu; f = newf; dxu = x; fixed = fixed })) e;
       same = ap (λ (l : Left). l .fixed) (h .at);
     }
-    searched x fixed pitr e o (exceeded trials) h = record { last = end (refused 7) (count r k trials) (h .last); is = h .is; ends = record { says = refl; same = h .same; known = tt } }
+    searched x fixed pitr e o (exceeded trials) h = record { last = end (failedP Search) (count r k trials) (h .last); is = h .is; ends = record { says = refl; same = h .same } }
 
   -- ---- what follows the solver's last round
 
@@ -184,13 +180,13 @@ module _ (sh : Sizes) (tm : Terms) (tol : Float) (m : List Float) where
         (lineSearch (parts sh tm tol m) 100 (work (count r (k₀ + made) j) (held (stepped a′ one) v))) (searchIn sh tm m a′ v 100 j one)
         (search-loop sh tm tol m r (k₀ + made) a′ 100 j one v)
 
-    solve-is : (kept : Kept) (o : Progress (End Data) (Work Data)) (s : Solution) → SolvedBy sh tm tol m r k₀ j a kept o s
+    solve-is : (kept : Kept) (o : Progress (End Failure Data) (Work Data)) (s : Solution) → SolvedBy sh tm tol m r k₀ j a kept o s
         → RoundBy (kept .fixed) (then o (lineSearch (parts sh tm tol m) 100)) (afterSolve kept s)
     unfolding then
     solve-is kept o (ok error x made) h =
         let w = work (count r (k₀ + made) j) (aim sh tm (held (turned a error (h .bkden)) (h .store))) in
         let now = lineSearch (parts sh tm tol m) 100 w in
-        subst (λ (o′ : Progress (End Data) (Work Data)). RoundBy (kept .fixed) (then o′ (lineSearch (parts sh tm tol m) 100)) (afterAim kept x error made)) (sym (h .is))
+        subst (λ (o′ : Progress (End Failure Data) (Work Data)). RoundBy (kept .fixed) (then o′ (lineSearch (parts sh tm tol m) 100)) (afterAim kept x error made)) (sym (h .is))
         (subst (λ (l : Kept). RoundBy (l .fixed) now (afterAim l x error made)) (h .same)
         (subst (λ (x′ : List Float). RoundBy (fixedIn (h .store)) now (afterAim (keptIn (h .store)) x′ error made)) (h .at)
         (aim-is error (h .bkden) made (h .store))))
@@ -199,13 +195,13 @@ module _ (sh : Sizes) (tm : Terms) (tol : Float) (m : List Float) where
   -- ---- the opening
 
   module _ (c : CountsP) where
-    abbrev afterOpen : Opened Data → Progress (End Data) (Work Data)
+    abbrev afterOpen : Opened Failure Data → Progress (End Failure Data) (Work Data)
     afterOpen o =
         then
         (elim o [
           | ready t ↦ going (work (round+ c) t)
           | done t ↦ over (end convergedP (round+ c) t)
-          | tiny t ↦ over (end (refused 8) (round+ c) t)
+          | fails x t ↦ over (end (failedP x) (round+ c) t)
         ])
         (λ w. then (solve (parts sh tm tol m) 4999 1 w) (lineSearch (parts sh tm tol m) 100))
 
@@ -249,9 +245,9 @@ module _ (sh : Sizes) (tm : Terms) (tol : Float) (m : List Float) where
     unfolding readyBy solveMut then told countsOf round+ beginStore begun systemOf bnrmOf withWork _⟨_≔_⟩ upd
     ready-is a t dual pcgtol u =
         let a′ = opened a t dual pcgtol (bnrmOf sh u) in
-        choose (λ (o : Opened Data) (s : Solution). RoundBy (fixedIn u) (afterOpen o) (afterSolve (c .rounds + 1) (c .solver) (c .trials) a′ (keptIn u) s))
-        (le pcgtol plus0) (tiny (held (opened a t dual pcgtol (a .bnrm)) u)) (ready (held a′ (beginStore sh u))) (err 8) (loopIn u pcgtol (fillOf plus0 (2 * sh .p)) plus0 plus0)
-        (record { last = end (refused 8) (round+ c) (held (opened a t dual pcgtol (a .bnrm)) u); is = refl; ends = record { says = refl; same = refl; known = tt } })
+        choose (λ (o : Opened Failure Data) (s : Solution). RoundBy (fixedIn u) (afterOpen o) (afterSolve (c .rounds + 1) (c .solver) (c .trials) a′ (keptIn u) s))
+        (le pcgtol plus0) (fails Tolerance (held (opened a t dual pcgtol (a .bnrm)) u)) (ready (held a′ (beginStore sh u))) (err 8) (loopIn u pcgtol (fillOf plus0 (2 * sh .p)) plus0 plus0)
+        (record { last = end (failedP Tolerance) (round+ c) (held (opened a t dual pcgtol (a .bnrm)) u); is = refl; ends = record { says = refl; same = refl } })
         (anew-is a t dual pcgtol u)
 
     -- the solver's tolerance, by the flag
@@ -301,9 +297,9 @@ module _ (sh : Sizes) (tm : Terms) (tol : Float) (m : List Float) where
       let t = nextT (sh .p) (a .s) gap (a .t) in
       let u = newtonStore sh tm m t g in
       let d = held (opened a (a .t) dual (a .tol) (a .bnrm)) g in
-      choose (λ (o : Opened Data) (x : Next). RoundBy (fixedIn v) (afterOpen c o) x) (lt (gap ⊘ dual) tol) (done d) (readyBy sh a t dual (pcgtolOf sh r a gap u) u)
+      choose (λ (o : Opened Failure Data) (x : Next). RoundBy (fixedIn v) (afterOpen c o) x) (lt (gap ⊘ dual) tol) (done d) (readyBy sh a t dual (pcgtolOf sh r a gap u) u)
       (out (converged (countsOf (round+ c)) (record { w = v W; u = v U; t = a .t }))) (afterNewton c a t dual (pcgtolIn c r a gap u) u (rustIn c u))
-      (record { last = end convergedP (round+ c) d; is = refl; ends = record { says = refl; same = refl; known = tt } })
+      (record { last = end convergedP (round+ c) d; is = refl; ends = record { says = refl; same = refl } })
       (newton-is c r a t dual gap u)
 
   pub round-is : (r : ℕ) (c : CountsP) (a : Scalars) (v : Store) → RoundBy (fixedIn v) (oneRound (parts sh tm tol m) r (work c (held a v))) (roundIn r c a v)

@@ -4,6 +4,8 @@ use mathlib.Core.Bool.{Bool, true, false, _&&_, cond}
 use mathlib.Core.List.{List}
 use Prim.Native.Nat.{ℕ, zero, suc, _+_, _*_}
 use lib.Ieee.{Float, lt}
+use Rattle.refusal.specs.declared.Failure.{Failure}
+use Rattle.refusal.specs.declared.Failure.the-variants.{Search}
 use Rattle.numbers.specs.Ops.{_⊗_}
 use Rattle.numbers.specs.Constants.{half}
 use Rattle.arrays.specs.Part.{part}
@@ -16,7 +18,7 @@ use Rattle.layout.specs.Slots.{Slot.W, Slot.U, Slot.F, Slot.NEWF, Slot.DXU, Slo
 use Rattle.design.specs.Mode.{matvecOf}
 use Rattle.line_search.specs.Search.{facesOf, largestOf, sumlognegOf, phiOf, decreases}
 use Rattle.pause.specs.Progress.{Progress, over, going}
-use Rattle.pause.specs.Parts.{Tried, accept, halve, trial+, refused, End, end}
+use Rattle.pause.specs.Parts.{Tried, accept, halve, trial+, failed, End, end}
 use Rattle.pause.specs.Unbroken.{Work, work, lineSearch}
 use Rattle.lasso_optimizer.specs.declared.Scalars.{Scalars}
 use Rattle.lasso_optimizer.specs.Data.{Data, held, storeOf, stepped}
@@ -52,17 +54,17 @@ searchIn sh tm m a v =
     search (sh .k) (sh .p) (v Y) (tm .lambda) (matvecOf sh tm m v) (v W) (v U) (part (v DXU) 0 (sh .p)) (part (v DXU) (sh .p) (sh .p)) (a .t) (a .phi) (a .gdx)
 
 module _ (sh : Sizes) (tm : Terms) (tol : Float) (m : List Float) (r k : ℕ) (a : Scalars) where
-  pub record SearchedTo (o : Progress (End Data) (Work Data)) (left : Left) (s : Float) (trials : ℕ) : Type 0 where
+  pub record SearchedTo (o : Progress (End Failure Data) (Work Data)) (left : Left) (s : Float) (trials : ℕ) : Type 0 where
     pub store : Store
     pub is : o ≡ going (work (count r k trials) (held (stepped a s) store))
     pub at : leftIn store ≡ left
 
-  pub record Exceeded (fixed : Fixed) (o : Progress (End Data) (Work Data)) (trials : ℕ) : Type 0 where
+  pub record Exceeded (fixed : Fixed) (o : Progress (End Failure Data) (Work Data)) (trials : ℕ) : Type 0 where
     pub last : Data
-    pub is : o ≡ over (end (refused 7) (count r k trials) last)
+    pub is : o ≡ over (end (failed Search) (count r k trials) last)
     pub same : fixedIn (storeOf last) ≡ fixed
 
-  abbrev pub SearchedBy : List Float → Fixed → Progress (End Data) (Work Data) → Searched → Type 0
+  abbrev pub SearchedBy : List Float → Fixed → Progress (End Failure Data) (Work Data) → Searched → Type 0
   SearchedBy dxu fixed o (accepted s neww newu newf trials) = SearchedTo o (record { w = neww; u = newu; f = newf; dxu = dxu; fixed = fixed }) s trials
   SearchedBy dxu fixed o (exceeded trials) = Exceeded fixed o trials
 

@@ -7,9 +7,12 @@ use native.Mathlib.Nat.{zero-add}
 use native.Mathlib.Omega.{arith}
 use lib.Dec.{eqb}
 use lib.Ieee.{Float, nan, le}
+use Rattle.refusal.specs.declared.Failure.{Failure}
 use Rattle.numbers.specs.Ops.{_⊕_, _⊗_}
-use Rattle.arrays.specs.Part.{part, tab-ext, getD-part}
-use Rattle.arrays.specs.Sums.{_!_, plus0, fold-ext}
+use Rattle.arrays.specs.Part.{part}
+use Rattle.arrays.proofs.Part.{tab-ext, getD-part}
+use Rattle.arrays.specs.Sums.{_!_, plus0}
+use Rattle.arrays.proofs.Folds.{fold-ext}
 use Rattle.matrices.specs.Products.{rowProduct, rowsOf}
 use Rattle.settings.specs.declared.Terms.{Terms}
 use Rattle.layout.specs.declared.Sizes.{Sizes}
@@ -89,14 +92,14 @@ choose Rel false o₁ o₂ x₁ x₂ p q = q
 
 -- from k₀ solver rounds on
 module _ (sh : Sizes) (tm : Terms) (tol : Float) (m : List Float) (r k₀ j : ℕ) (a : Scalars) where
-  pub record SolvedTo (kept : Kept) (o : Progress (End Data) (Work Data)) (error : Float) (x : List Float) (made : ℕ) : Type 0 where
+  pub record SolvedTo (kept : Kept) (o : Progress (End Failure Data) (Work Data)) (error : Float) (x : List Float) (made : ℕ) : Type 0 where
     pub bkden : Float
     pub store : Store
     pub is : o ≡ going (work (count r (k₀ + made) j) (aim sh tm (held (turned a error bkden) store)))
     pub same : keptIn store ≡ kept
     pub at : store DXU ≡ x
 
-  abbrev pub SolvedBy : Kept → Progress (End Data) (Work Data) → Solution → Type 0
+  abbrev pub SolvedBy : Kept → Progress (End Failure Data) (Work Data) → Solution → Type 0
   SolvedBy kept o (ok error x made) = SolvedTo kept o error x made
   SolvedBy kept o (err k) = ⊥
 

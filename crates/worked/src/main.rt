@@ -1,7 +1,6 @@
 // start, resume, fit_in_pieces, fit, predict, solve and read_sheet once each, on numbers that can be followed by hand; the README quotes what this prints.
 use elastic_net::Answer;
 use elastic_net::Started;
-use elastic_net::Way;
 use elastic_net::resume;
 use elastic_net::start;
 use lone_solver::solve;
@@ -9,15 +8,19 @@ use numbers::bits::bits_of;
 use paused_fit::fit_in_pieces;
 use prediction::Predicted;
 use prediction::predict;
+use records::Counts;
+use records::Paused;
 use refusal::Refusal;
+use refusal::Way;
 use refusal::number;
 use refusal::place;
 use settings::Settings;
 use sheet::Read;
 use sheet::read_sheet;
-use stages::Counts;
-use stages::Paused;
+use whole_fit::Final;
 use whole_fit::fit;
+ghost use mathlib.Core.Path.{_≡_};
+ghost use lib.ListN.{length};
 
 fn main() {
     in_budgets();
@@ -55,47 +58,25 @@ fn in_budgets() {
 fn three_calls(x: &[f64], y: &[f64], memory: [f64; 120], fresh: Paused) {
     let mut scratch = memory;
     let mut weights = [0.0; 2];
-    let r = resume(
-        4,
-        2,
-        x,
-        y,
-        settings(),
-        fresh,
-        &mut scratch,
-        &mut weights,
-        20,
-    );
+    let record = call(x, y, fresh, &mut scratch, &mut weights);
+    let record = call(x, y, record, &mut scratch, &mut weights);
+    call(x, y, record, &mut scratch, &mut weights);
+}
+
+// 20 steps; the record is that of the next call.
+fn call(x: &[f64], y: &[f64], record: Paused, s: &mut [f64], w: &mut [f64]) -> Paused
+    requires { ⌜ length (now w) ≡ 2 ⌝ }
+{
+    let r = resume(4, 2, x, y, settings(), record, s, w, 20);
     let a = r.answer;
-    answered(a, weights[0], weights[1]);
-    let record = r.paused;
-    let r = resume(
-        4,
-        2,
-        x,
-        y,
-        settings(),
-        record,
-        &mut scratch,
-        &mut weights,
-        20,
-    );
-    let a = r.answer;
-    answered(a, weights[0], weights[1]);
-    let record = r.paused;
-    let r = resume(
-        4,
-        2,
-        x,
-        y,
-        settings(),
-        record,
-        &mut scratch,
-        &mut weights,
-        20,
-    );
-    let a = r.answer;
-    answered(a, weights[0], weights[1]);
+    match a {
+        Answer::Pending => {
+            io::write_all(1, b"pending\n");
+        }
+        Answer::Done(intercept, way, c) => done(intercept, way, c, w[0], w[1]),
+        Answer::Refused(r) => refused(r),
+    }
+    r.paused
 }
 
 // The same fit by code whose contract says that the pauses change nothing.
@@ -107,7 +88,10 @@ fn in_pieces() {
     let r = fit_in_pieces(4, 2, &x, &y, settings(), &mut scratch, &mut weights, 20, 20);
     let a = r.answer;
     io::write_all(1, b"in pieces: ");
-    ended(a);
+    match a {
+        Final::Done(_, way, c) => ended(way, c),
+        Final::Refused(r) => refused(r),
+    }
 }
 
 fn whole() {
@@ -117,7 +101,10 @@ fn whole() {
     let mut weights = [0.0; 2];
     let r = fit(4, 2, &x, &y, settings(), &mut scratch, &mut weights);
     let a = r.answer;
-    answered(a, weights[0], weights[1]);
+    match a {
+        Final::Done(intercept, way, c) => done(intercept, way, c, weights[0], weights[1]),
+        Final::Refused(r) => refused(r),
+    }
 }
 
 fn predictions() {
@@ -157,34 +144,17 @@ fn sheet_bytes() {
     }
 }
 
-fn answered(a: Answer, w0: f64, w1: f64) {
-    match a {
-        Answer::Pending => {
-            io::write_all(1, b"pending\n");
-        }
-        Answer::Done(intercept, way, c) => {
-            told(way);
-            counts(c);
-            one(b"intercept", intercept);
-            io::write_all(1, b"\n");
-            two(b"weights", w0, w1);
-        }
-        Answer::Refused(r) => refused(r),
-    }
+fn done(intercept: f64, way: Way, c: Counts, w0: f64, w1: f64) {
+    ended(way, c);
+    one(b"intercept", intercept);
+    io::write_all(1, b"\n");
+    two(b"weights", w0, w1);
 }
 
 // How a fit ended, and its counts.
-fn ended(a: Answer) {
-    match a {
-        Answer::Pending => {
-            io::write_all(1, b"pending\n");
-        }
-        Answer::Done(_, way, c) => {
-            told(way);
-            counts(c);
-        }
-        Answer::Refused(r) => refused(r),
-    }
+fn ended(way: Way, c: Counts) {
+    told(way);
+    counts(c);
 }
 
 fn told(w: Way) {

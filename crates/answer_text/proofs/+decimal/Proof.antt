@@ -1,4 +1,4 @@
--- The proof of the cycle of calls {decimal}. The measure is the most digits. Assumes nothing.
+-- The proof of the cycle of calls {decimal}: the inner call writes all digits but the last. The measure: k, the most digits. Assumes nothing.
 use Prim.Native.Nat.{ℕ, _<_}
 use native.Mathlib.Nat.{mod-lt, lt-trans}
 use native.Mathlib.Omega.{arith}

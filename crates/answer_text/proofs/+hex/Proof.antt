@@ -1,4 +1,4 @@
--- The proof of the cycle of calls {hex}. The measure is the number of digits. Assumes nothing.
+-- The proof of the cycle of calls {hex}: the inner call writes all digits but the last. The measure: k, the number of digits. Assumes nothing.
 use Prim.Native.Nat.{ℕ, _<_}
 use native.Mathlib.Nat.{mod-lt}
 use native.Mathlib.Omega.{arith}

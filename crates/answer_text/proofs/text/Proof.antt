@@ -1,4 +1,5 @@
--- `answer_text::text` meets its contract. The loop's invariant: the first i bytes are written. Assumes nothing.
+-- `answer_text::text` meets its contract. The invariant: the first i bytes are written from `at` on, and all else is as it was.
+-- The measure: length s - i. Assumes nothing.
 use Prim.Native.Nat.{_-_}
 use native.Mathlib.Omega.{arith}
 use lib.ListN.{length}

@@ -1,4 +1,5 @@
--- `answer_text::weights` meets its contract. The loop's invariant: the lines of the first j weights are written. Assumes nothing.
+-- `answer_text::weights` meets its contract. The invariant: the lines of the first j weights are written and end at a, 22 bytes a line at most.
+-- The measure: length w - j. Assumes nothing.
 use Prim.Native.Nat.{_-_}
 use native.Mathlib.Omega.{arith}
 use lib.ListN.{length}

@@ -1,4 +1,4 @@
--- `answer_text::write_done` meets its contract. Assumes nothing.
+-- `answer_text::write_done` meets its contract: the lines before the weights have 127 bytes at most, so 2,048 hold those of the weights too. Assumes nothing.
 use borrow.Author.Tests.{lt-ltb, le-ltb}
 use native.Mathlib.Omega.{arith}
 use Rattle.answer_text.specs.Text.{doneOf, laid}

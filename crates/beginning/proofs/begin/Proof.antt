@@ -1,8 +1,9 @@
--- `beginning::begin` meets its contract. Assumes nothing.
+-- `beginning::begin` meets its contract: each call's store is that of the one before, and the sweep changes nothing. Assumes nothing.
 use mathlib.Core.Path.{_≡_, _∙_}
 use native.Mathlib.Omega.{arith}
 use lib.ListN.{length}
-use Rattle.layout.specs.Slots.{next, words}
+use Rattle.layout.specs.Slots.{words}
+use Rattle.layout.proofs.Slots.{next}
 use Rattle.design.specs.Statistics.{statisticsStore, targetsStore}
 use Rattle.beginning.specs.Start.{preparedStore, startStore}
 use Rattle.beginning.proofs.Starts.{begins-on, given}

@@ -1,6 +1,7 @@
 -- `beginning::blank` meets its contract. Assumes nothing.
 use native.Mathlib.Omega.{arith}
-use Rattle.layout.specs.Slots.{start, words}
+use Rattle.layout.specs.Slots.{words}
+use Rattle.layout.proofs.Slots.{start}
 use Rattle.beginning.proofs.Starts.{blanked}
 use Rattle.beginning.proofs.blank.Statement.{statement}
 use Rattle.beginning.proofs.blank.Tie as tie

@@ -1,4 +1,4 @@
--- `beginning::prepare` meets its contract. Assumes nothing.
+-- `beginning::prepare` meets its contract: the two modes, told apart by the design's rows. Assumes nothing.
 use mathlib.Core.Path.{_∙_}
 use native.Mathlib.Omega.{arith}
 use Rattle.beginning.proofs.Starts.{begins-on, given, lent, unstored, stored}

@@ -2,7 +2,7 @@
 use borrow.Author.Needs.{needs}
 use mathlib.Core.Path.{_≡_, refl}
 use Prim.Native.Nat.{ℕ, zero, suc}
-use Rattle.stages.specs.declared.Stage.the-variants.{Ended}
+use Rattle.records.specs.declared.Stage.the-variants.{Ended}
 use Rattle.c_words.specs.Words.{stageFrom}
 use Rattle.c_words.proofs.stage_from.Statement.{statement}
 use Rattle.c_words.proofs.stage_from.Tie as tie

@@ -3,7 +3,8 @@ use borrow.Author.Needs.{needs}
 use native.Mathlib.Omega.{arith}
 use mathlib.Core.Path.{sym}
 use lib.ListN.{length-set}
-use Rattle.arrays.specs.Part.{put, put-all}
+use Rattle.arrays.specs.Part.{put}
+use Rattle.arrays.proofs.Part.{put-all}
 use Rattle.c_words.specs.Words.{toldWords}
 use Rattle.c_words.proofs.write_answer.Statement.{statement}
 use Rattle.c_words.proofs.write_answer.Tie as tie

@@ -1,21 +1,20 @@
 -- `checks::limits` meets its contract: each return is the first test that fails. Assumes nothing.
-use mathlib.Core.Path.{_≡_, sym, ap, subst, _∙_}
+use mathlib.Core.Path.{_≡_, sym, subst, _∙_}
 use mathlib.Core.Bool.{true, _&&_}
 use Prim.Native.Nat.{ℕ, _*_, _≤_, _<_}
 use native.Mathlib.Nat.{mul-le-mul}
 use native.Mathlib.Omega.{arith}
-use lib.Dec.{T, leb, eqb}
+use lib.Dec.{leb, eqb}
 use borrow.Author.Tests.{not-true, not-false, le-leb, lt-leb, eq-eqb, ne-eqb}
 use Rattle.settings.specs.Settings.{allowedOf}
-use Rattle.settings.proofs.Laws.{allowed-says}
-use Rattle.layout.specs.Slots.{words}
-use Rattle.layout.specs.Need.{needOf, Small}
-use Rattle.layout.proofs.Laws.{need-agrees, small-sizes}
+use Rattle.layout.specs.Need.{needOf}
 use Rattle.refusal.specs.declared.Refusal.the-variants.{Scratch}
 use Rattle.refusal.specs.declared.Checked.the-variants.{Fine}
 use Rattle.refusal.specs.Checks.{ask}
+use Rattle.refusal.specs.Sizes.{inSize}
+use Rattle.refusal.proofs.Sizes.{InSize, size-of}
 use Rattle.checks.specs.Checks.{limitsOf}
-use Rattle.checks.proofs.Laws.{InSize, size-of}
+use Rattle.checks.proofs.Laws.{small-allowed, need-told}
 use Rattle.checks.proofs.limits.Statement.{statement}
 use Rattle.checks.proofs.limits.Tie as tie
 
@@ -29,11 +28,11 @@ from4 c = from1 (c .before .before .before)
 abbrev from5 : tie.Else5 → tie.Start
 from5 c = from4 (c .before .before)
 
-sized : (c : tie.Else1) → leb 1 (from1 c .args .n) && leb (from1 c .args .n) 4096 && leb 1 (from1 c .args .p) && leb (from1 c .args .p) 64 ≡ true
+sized : (c : tie.Else1) → inSize (from1 c .args .n) (from1 c .args .p) ≡ true
 sized c = sym (c .before .in-size .ensures) ∙ not-false _ (c .if1 .left)
 
 bounds : (c : tie.Else1) → InSize (from1 c .args .n) (from1 c .args .p)
-bounds c = size-of (sized c)
+bounds c = size-of _ _ (sized c)
 
 long : (c : tie.Else4)
     → eqb (from4 c .args .xl) (from4 c .args .n * from4 c .args .p) && eqb (from4 c .args .yl) (from4 c .args .n) && eqb (from4 c .args .wl) (from4 c .args .p) ≡ true
@@ -45,7 +44,7 @@ settled c = sym (c .before .allowed .ensures) ∙ not-false _ (c .if5 .left)
 needed : (c : tie.After-need)
     → let g = from5 (c .before .before) .args in
     c .need .result ≡ needOf (g .n) (g .p) (g .st)
-needed c = c .need .ensures ∙ ap words (c .before .sizes-of .ensures) ∙ need-agrees _ _ _
+needed c = need-told _ _ _ (c .before .sizes-of .ensures) (c .need .ensures)
 
 -- 1, 2 and 3 passed
 passed : (c : tie.Else5)
@@ -99,8 +98,7 @@ sizes-of-requires c κs =
 need-requires : tie.Need-need-requires
 need-requires c κs =
     let d = c .before in
-    let z = bounds (d .before .before .before .before .before) in
-    subst Small (sym (c .sizes-of .ensures)) (small-sizes _ _ _ (z .rows) (z .columns) (allowed-says _ (subst T (sym (settled d)) tt) .panels))
+    small-allowed _ _ _ (c .sizes-of .ensures) (sized (d .before .before .before .before .before)) (settled d)
 
 returns-6 : tie.Need-returns-6
 returns-6 c =

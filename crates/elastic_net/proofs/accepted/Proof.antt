@@ -1,4 +1,4 @@
--- `elastic_net::accepted` meets its contract. Assumes nothing.
+-- `elastic_net::accepted` meets its contract: a call that goes on leaves what the steps left, and one that ends is `finish`. Assumes nothing.
 use mathlib.Core.Path.{_≡_, _∙_}
 use lib.ListN.{length}
 use native.Mathlib.Omega.{arith}

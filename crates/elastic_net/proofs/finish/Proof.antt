@@ -1,8 +1,8 @@
--- `elastic_net::finish` meets its contract. Assumes nothing.
+-- `elastic_net::finish` meets its contract: one return for a fit that is done, and one for a fit that failed, whose weights are +0. Assumes nothing.
 use mathlib.Core.Path.{_∙_}
 use borrow.Author.Needs.{needs}
 use Rattle.layout.specs.Slots.{words}
-use Rattle.elastic_net.proofs.Ends.{converges, runs-out, fails}
+use Rattle.elastic_net.proofs.Ends.{is-done, fails}
 use Rattle.elastic_net.proofs.finish.Statement.{statement}
 use Rattle.elastic_net.proofs.finish.Tie as tie
 
@@ -25,20 +25,17 @@ wipe-requires : tie.Need-wipe-requires
 unfolding words
 wipe-requires c κs = (c .need .ensures, rw (c .need .ensures) (from (c .before .before .before .before) .pre .0 .room .room))
 
-enum-told : tie.Need-enum-told
-enum-told c = search needs
-
-enum-told-2 : tie.Need-enum-told-2
-enum-told-2 c = search needs
-
 enum-known-how : tie.Need-enum-known-how
 enum-known-how c = search needs
+
+enum-known-how-2 : tie.Need-enum-known-how-2
+enum-known-how-2 c = search needs
 
 fill-requires : tie.Need-fill-requires
 fill-requires c κs = search needs
 
-failed-requires : tie.Need-failed-requires
-failed-requires c κs = tt
+refused-by-requires : tie.Need-refused-by-requires
+refused-by-requires c κs = tt
 
 same-length : tie.Need-same-length
 same-length c = search needs
@@ -48,12 +45,12 @@ same-length-2 c = search needs
 
 returns : tie.Need-returns
 returns c =
-    let n = c .before .before .before .before in
+    let n = c .before .before .before .before .before in
     let v = solved n in
     let a = from v in
     let g = a .args in
-    converges (g .sh) (g .normalise) (g .gamma) (g .y .now) (g .s .now) (g .c) (v .solution .ensures .1)
-    (n .before .before .before .before .before .before .before .before .ended .ensures) (n .wipe .ensures) (v .solution .ensures .0) (c .enum-told .given .1)
+    is-done (g .sh) (g .normalise) (g .gamma) (g .y .now) (g .s .now) (g .c) (v .solution .ensures .1)
+    (n .before .before .before .before .before .before .before .before .ended .ensures) (n .wipe .ensures) (v .solution .ensures .0) (c .before .how .given .1)
 
 same-length-3 : tie.Need-same-length-3
 same-length-3 c = search needs
@@ -63,21 +60,6 @@ same-length-4 c = search needs
 
 returns-2 : tie.Need-returns-2
 returns-2 c =
-    let n = c .before .before .before .before in
-    let v = solved n in
-    let a = from v in
-    let g = a .args in
-    runs-out (g .sh) (g .normalise) (g .gamma) (g .y .now) (g .s .now) (g .c) (v .solution .ensures .1)
-    (n .before .before .before .before .before .before .before .before .ended .ensures) (n .wipe .ensures) (v .solution .ensures .0) (c .enum-told2 .given .1)
-
-same-length-5 : tie.Need-same-length-5
-same-length-5 c = search needs
-
-same-length-6 : tie.Need-same-length-6
-same-length-6 c = search needs
-
-returns-3 : tie.Need-returns-3
-returns-3 c =
     let n = c .before .before .before .before .before .before .before .before .before .before in
     let v = solved n in
     let a = from v in
@@ -86,7 +68,7 @@ returns-3 c =
     (n .before .before .before .before .before .before .before .before .ended .ensures) (n .wipe .ensures)
     (v .solution .last .1 .1 .1 .1 .1 .1 .0)
     (v .solution .kept .1 .1 .1 .1 .1 .1 .0 ∙ a .pre .0 .weights)
-    (c .before .before .before .fill .ensures) (c .before .before .before .before .before .before .how .given .1) (c .failed .ensures)
+    (c .before .before .before .fill .ensures) (c .before .before .before .before .before .before .how2 .given .1) (c .refused-by .ensures)
 
 pub finish-spec : {M : Type 1} → statement M
 finish-spec =
@@ -96,17 +78,13 @@ finish-spec =
     solution-requires
     need-requires
     wipe-requires
-    enum-told
-    enum-told-2
     enum-known-how
+    enum-known-how-2
     fill-requires
-    failed-requires
+    refused-by-requires
     same-length
     same-length-2
     returns
     same-length-3
     same-length-4
-    returns-2
-    same-length-5
-    same-length-6
-    returns-3)
+    returns-2)

@@ -1,4 +1,4 @@
--- `elastic_net::go` meets its contract. Assumes nothing.
+-- `elastic_net::go` meets its contract: a possible record that is not spent is one that a step may take. Assumes nothing.
 use mathlib.Core.Path.{sym, _∙_}
 use Rattle.lasso_optimizer.specs.Fit.{parts}
 use Rattle.records.proofs.Laws.{possible-sane}

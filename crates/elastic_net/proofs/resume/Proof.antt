@@ -1,4 +1,4 @@
--- `elastic_net::resume` meets its contract. Assumes nothing.
+-- `elastic_net::resume` meets its contract: the two refusals leave everything as it was; past them it is `accepted`. Assumes nothing.
 use mathlib.Core.Path.{sym, _∙_}
 use native.Mathlib.Omega.{arith}
 use borrow.Author.Needs.{needs}
@@ -22,35 +22,28 @@ passed c = accepted (fine-of _ _ _ _ _ _ _ (c .before .before .limits .result) (
 limits-requires : tie.Need-limits-requires
 limits-requires c κs = tt
 
-enum-told : tie.Need-enum-told
-enum-told c = search needs
-
-enum-told-2 : tie.Need-enum-told-2
-enum-told-2 c = search needs
-
-unchanged-requires : tie.Need-unchanged-requires
-unchanged-requires c κs = tt
+enum-known-c : tie.Need-enum-known-c
+enum-known-c c = search needs
 
 returns : tie.Need-returns
 returns c =
     let l = c .before .before .before in
     let g = l .before .before .before .before .before .args in
-    refused (g .n) (g .p) (g .x .now) (g .y .now) (g .st) (g .rec) (g .s .now) (g .w .now) (g .budget) (l .limits .ensures)
-    (c .before .enum-told2 .given .1) (c .unchanged .ensures)
+    refused (g .n) (g .p) (g .x .now) (g .y .now) (g .st) (g .rec) (g .s .now) (g .w .now) (g .budget) (l .limits .ensures) (c .before .c .given .1)
+
+enum-told : tie.Need-enum-told
+enum-told c = search needs
 
 possible-requires : tie.Need-possible-requires
 possible-requires c κs = omega (arith, few-rounds (passed c))
 
-unchanged-requires-2 : tie.Need-unchanged-requires-2
-unchanged-requires-2 c κs = tt
-
 returns-2 : tie.Need-returns-2
 returns-2 c =
-    let k = c .before .before .before in
+    let k = c .before .before in
     let l = k .before .before in
     let g = from k .args in
     refused-record (g .n) (g .p) (g .x .now) (g .y .now) (g .st) (g .rec) (g .s .now) (g .w .now) (g .budget) (l .limits .ensures)
-    (k .enum-told .given .1) (sym (c .before .before .possible .ensures) ∙ not-true _ (c .before .if1 .taken)) (c .unchanged2 .ensures)
+    (k .enum-told .given .1) (sym (c .before .possible .ensures) ∙ not-true _ (c .if1 .taken))
 
 accepted-requires : tie.Need-accepted-requires
 accepted-requires c κs =
@@ -78,12 +71,10 @@ resume-spec =
     tie.close
     (tie.spec
     limits-requires
-    enum-told
-    enum-told-2
-    unchanged-requires
+    enum-known-c
     returns
+    enum-told
     possible-requires
-    unchanged-requires-2
     returns-2
     accepted-requires
     same-length

@@ -1,4 +1,5 @@
--- `elastic_net::start` meets its contract. Assumes nothing.
+-- `elastic_net::start` meets its contract: each refusal is that of the first check that fails; past both, sizes and lengths are what `begin` asks.
+-- Assumes nothing.
 use mathlib.Core.Path.{sym, _∙_}
 use native.Mathlib.Omega.{arith}
 use borrow.Author.Needs.{needs}
@@ -27,32 +28,23 @@ checked c = c .before .before .before .before
 limits-requires : tie.Need-limits-requires
 limits-requires c κs = tt
 
-enum-told : tie.Need-enum-told
-enum-told c = search needs
-
-enum-told-2 : tie.Need-enum-told-2
-enum-told-2 c = search needs
-
-not-started-requires : tie.Need-not-started-requires
-not-started-requires c κs = tt
+enum-known-c : tie.Need-enum-known-c
+enum-known-c c = search needs
 
 returns : tie.Need-returns
 returns c =
     let l = c .before .before .before in
     let g = l .before .before .before .before .args in
-    start-refused (g .n) (g .p) (g .x .now) (g .y .now) (g .st) (g .s .now) (l .limits .ensures) (c .before .enum-told2 .given .1) (c .not-started .ensures)
+    start-refused (g .n) (g .p) (g .x .now) (g .y .now) (g .st) (g .s .now) (l .limits .ensures) (c .before .c .given .1)
+
+enum-told : tie.Need-enum-told
+enum-told c = search needs
 
 start-values-requires : tie.Need-start-values-requires
 start-values-requires c κs = let a = passed c in record { matrix = a .matrix; targets = a .targets; rows = a .rows; columns = a .columns }
 
-enum-told-3 : tie.Need-enum-told-3
-enum-told-3 c = search needs
-
-enum-told-4 : tie.Need-enum-told-4
-enum-told-4 c = search needs
-
-not-started-requires-2 : tie.Need-not-started-requires-2
-not-started-requires-2 c κs = tt
+enum-known-c-2 : tie.Need-enum-known-c-2
+enum-known-c-2 c = search needs
 
 returns-2 : tie.Need-returns-2
 returns-2 c =
@@ -61,7 +53,10 @@ returns-2 c =
     let l = k .before .before in
     let g = from k .args in
     values-refused (g .n) (g .p) (g .x .now) (g .y .now) (g .st) (g .s .now) (l .limits .ensures) (k .enum-told .given .1)
-    (v .start-values .ensures) (c .before .enum-told4 .given .1) (c .not-started2 .ensures)
+    (v .start-values .ensures) (c .before .c2 .given .1)
+
+enum-told-2 : tie.Need-enum-told-2
+enum-told-2 c = search needs
 
 sizes-of-requires : tie.Need-sizes-of-requires
 sizes-of-requires c κs = let a = passed (c .before .before .before) in (a .rows, a .columns)
@@ -103,7 +98,7 @@ returns-3 c =
     let l = k .before .before in
     let g = from k .args in
     starts (g .n) (g .p) (g .x .now) (g .y .now) (g .st) (g .s .now) (l .limits .ensures) (k .enum-told .given .1)
-    (z .before .before .before .start-values .ensures) (z .before .enum-told3 .given .1) (z .sizes-of .ensures) (n .before .before .terms-of .ensures)
+    (z .before .before .before .start-values .ensures) (z .before .enum-told2 .given .1) (z .sizes-of .ensures) (n .before .before .terms-of .ensures)
     (c .before .before .before .before .begin .ensures) (c .before .fresh-scalars .ensures) (c .first .ensures)
 
 pub start-spec : {M : Type 1} → statement M
@@ -111,15 +106,13 @@ start-spec =
     tie.close
     (tie.spec
     limits-requires
-    enum-told
-    enum-told-2
-    not-started-requires
+    enum-known-c
     returns
+    enum-told
     start-values-requires
-    enum-told-3
-    enum-told-4
-    not-started-requires-2
+    enum-known-c-2
     returns-2
+    enum-told-2
     sizes-of-requires
     place-requires
     terms-of-requires

@@ -1,9 +1,10 @@
--- `ending::rescale` meets its contract. Assumes nothing.
+-- `ending::rescale` meets its contract. The invariant: the first i weights are rescaled, and the others are as they were. The measure: p - i. Assumes nothing.
 use Prim.Native.Nat.{_<_, _-_}
 use native.Mathlib.Omega.{arith}
 use lib.Ieee.{nan}
 use Rattle.numbers.specs.Ops.{_⊗_, _⊘_}
-use Rattle.arrays.specs.Part.{part, getD-part}
+use Rattle.arrays.specs.Part.{part}
+use Rattle.arrays.proofs.Part.{getD-part}
 use Rattle.arrays.specs.Sums.{_!_}
 use Rattle.arrays.specs.Vectors.{zipOf}
 use Rattle.arrays.proofs.Turns.{Made, made-none}

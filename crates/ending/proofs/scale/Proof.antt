@@ -1,4 +1,4 @@
--- `ending::scale` meets its contract. Assumes nothing.
+-- `ending::scale` meets its contract. The invariant: the first i weights are scaled, and the others are as they were. The measure: p - i. Assumes nothing.
 use Prim.Native.Nat.{_<_, _-_}
 use native.Mathlib.Omega.{arith}
 use Rattle.numbers.specs.Ops.{_⊗_}

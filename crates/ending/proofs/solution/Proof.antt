@@ -1,4 +1,4 @@
--- `ending::solution` meets its contract. Assumes nothing.
+-- `ending::solution` meets its contract: one return for each mode; the sweep and `canonical` change no number. Assumes nothing.
 use native.Mathlib.Omega.{arith}
 use Rattle.ending.proofs.Whole.{plain, normal}
 use Rattle.ending.proofs.solution.Statement.{statement}

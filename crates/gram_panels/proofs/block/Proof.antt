@@ -1,11 +1,12 @@
--- `gram_panels::block` meets its contract. Assumes nothing.
+-- `gram_panels::block` meets its contract. The invariant: the first `a` entry rows have the sums after nr rows of the panels, and all else is as it was.
+-- The measure: nj - a. Assumes nothing.
 use mathlib.Core.Path.{_≡_}
 use mathlib.Core.List.{List}
 use Prim.Native.Nat.{ℕ, _+_, _-_, _*_, _<_}
 use native.Mathlib.Omega.{arith}
 use lib.Ieee.{Float}
 use Rattle.arrays.specs.Part.{put, tab}
-use Rattle.arrays.specs.Sums.{fold-ext}
+use Rattle.arrays.proofs.Folds.{fold-ext}
 use Rattle.gram_panels.specs.Panels.{wid, sumAt, carry, Block}
 use Rattle.gram_panels.proofs.Mats.{row-le, Striped, striped-none, striped-more, striped-all, before-rows, beyond-rows}
 use Rattle.gram_panels.proofs.block.Statement.{statement}

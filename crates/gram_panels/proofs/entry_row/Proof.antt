@@ -1,4 +1,5 @@
--- `gram_panels::entry_row` meets its contract. The invariant: the sums are those after i rows of the panels. Assumes nothing.
+-- `gram_panels::entry_row` meets its contract. The invariant: the w sums are those after i rows of the panels, and all else is as it was.
+-- The measure: nr - i, which falls by four. Assumes nothing.
 use mathlib.Core.Path.{_≡_}
 use Prim.Native.Nat.{ℕ, _+_, _-_, _*_, _≤_}
 use native.Mathlib.Nat.{add-mul, mul-le-mul-right}

@@ -1,4 +1,5 @@
--- `gram_panels::few_rows` meets its contract. The invariant: the sums are those after i rows of the panels. Assumes nothing.
+-- `gram_panels::few_rows` meets its contract. The invariant: the w sums are those after i rows of the panels, and all else is as it was.
+-- The measure: nr - i. Assumes nothing.
 use mathlib.Core.Path.{_≡_, refl, sym, ap, _∙_}
 use mathlib.Core.List.{List}
 use Prim.Native.Nat.{ℕ, _-_, _≤_}
@@ -6,8 +7,10 @@ use native.Mathlib.Nat.{add-zero, zero-mul}
 use native.Mathlib.Omega.{arith}
 use lib.Ieee.{Float, nan}
 use Rattle.numbers.specs.Ops.{_⊕_, _⊗_}
-use Rattle.arrays.specs.Part.{part, put, tab, tab-ext, getD-part}
-use Rattle.arrays.specs.Sums.{_!_, fold-none, fold-turn}
+use Rattle.arrays.specs.Part.{part, put, tab}
+use Rattle.arrays.proofs.Part.{tab-ext, getD-part}
+use Rattle.arrays.specs.Sums.{_!_}
+use Rattle.arrays.proofs.Folds.{fold-none, fold-turn}
 use Rattle.arrays.specs.Vectors.{zipOf}
 use Rattle.arrays.proofs.Turns.{Made}
 use Rattle.gram_panels.specs.Panels.{sumAt}

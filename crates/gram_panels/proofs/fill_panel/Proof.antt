@@ -1,4 +1,5 @@
--- `gram_panels::fill_panel` meets its contract. Assumes nothing.
+-- `gram_panels::fill_panel` meets its contract. The invariant: the first i rows of the panel are written, and all else is as it was.
+-- The measure: nr - i. Assumes nothing.
 use mathlib.Core.Path.{_≡_, refl}
 use mathlib.Core.List.{List}
 use Prim.Native.Nat.{ℕ, _+_, _-_, _*_, _<_}

@@ -1,12 +1,14 @@
--- `gram_panels::four_rows` meets its contract. Assumes nothing.
+-- `gram_panels::four_rows` meets its contract: four turns of the sum, one to each row, are what `add_four` adds. Assumes nothing.
 use mathlib.Core.Path.{_≡_, sym, ap, _∙_}
 use mathlib.Core.List.{List}
 use Prim.Native.Nat.{ℕ, _+_, _*_}
 use native.Mathlib.Omega.{arith}
 use lib.Ieee.{Float}
 use Rattle.numbers.specs.Ops.{_⊗_}
-use Rattle.arrays.specs.Part.{put, tab, tab-ext}
-use Rattle.arrays.specs.Sums.{_!_, fold-none, fold-turn}
+use Rattle.arrays.specs.Part.{put, tab}
+use Rattle.arrays.proofs.Part.{tab-ext}
+use Rattle.arrays.specs.Sums.{_!_}
+use Rattle.arrays.proofs.Folds.{fold-none, fold-turn}
 use Rattle.gram_panels.specs.Panels.{fourAt, sumAt}
 use Rattle.gram_panels.proofs.four_rows.Statement.{statement}
 use Rattle.gram_panels.proofs.four_rows.Tie as tie

@@ -1,6 +1,7 @@
--- `inner_solver::begin` meets its contract. Assumes nothing.
+-- `inner_solver::begin` meets its contract: each call writes slots that lie apart from those that it reads. Assumes nothing.
 use native.Mathlib.Omega.{arith}
-use Rattle.layout.specs.Slots.{start, words}
+use Rattle.layout.specs.Slots.{words}
+use Rattle.layout.proofs.Slots.{start}
 use Rattle.inner_solver.proofs.Rounds.{did-begin}
 use Rattle.inner_solver.proofs.begin.Statement.{statement}
 use Rattle.inner_solver.proofs.begin.Tie as tie

@@ -1,8 +1,9 @@
--- `inner_solver::turn` meets its contract. Assumes nothing.
+-- `inner_solver::turn` meets its contract: each call writes slots that lie apart from those that it reads. Assumes nothing.
 use mathlib.Core.Path.{_≡_, _∙_}
 use native.Mathlib.Omega.{arith}
 use lib.ListN.{length}
-use Rattle.layout.specs.Slots.{start, words}
+use Rattle.layout.specs.Slots.{words}
+use Rattle.layout.proofs.Slots.{start}
 use Rattle.inner_solver.proofs.Rounds.{did-turn}
 use Rattle.inner_solver.proofs.turn.Statement.{statement}
 use Rattle.inner_solver.proofs.turn.Tie as tie

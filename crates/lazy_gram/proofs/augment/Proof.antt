@@ -1,4 +1,5 @@
--- `lazy_gram::augment` meets its contract. Assumes nothing.
+-- `lazy_gram::augment` meets its contract. The invariant: the first j rows of the lower triangle are augmented, and all else is as it was.
+-- The measure: p - j. Assumes nothing.
 use mathlib.Core.Path.{refl}
 use Prim.Native.Nat.{_+_, _-_, _*_}
 use native.Mathlib.Omega.{arith}

@@ -1,4 +1,4 @@
--- `lazy_gram::augment_row` meets its contract. Assumes nothing.
+-- `lazy_gram::augment_row` meets its contract: the diagonal's element, behind those that `times` wrote, is still as it was. Assumes nothing.
 use mathlib.Core.Path.{_≡_, refl}
 use mathlib.Core.List.{List}
 use Prim.Native.Nat.{ℕ, _+_}
@@ -8,7 +8,8 @@ use borrow.Author.Tests.{eq-eqb, ne-eqb}
 use lib.ListN.{set}
 use lib.Ieee.{Float, nan, binary64}
 use Rattle.numbers.specs.Ops.{_⊕_, _⊗_}
-use Rattle.arrays.specs.Part.{part, put, tab, tab-ext, length-tab, getD-part, getD-put-below, put-tab-more}
+use Rattle.arrays.specs.Part.{part, put, tab}
+use Rattle.arrays.proofs.Part.{tab-ext, length-tab, getD-part, getD-put-below, put-tab-more}
 use Rattle.arrays.specs.Sums.{_!_}
 use Rattle.arrays.specs.Vectors.{mapOf}
 use Rattle.arrays.proofs.Commute.{times-comm}

@@ -1,4 +1,5 @@
--- `lazy_gram::clear_low` meets its contract. Assumes nothing.
+-- `lazy_gram::clear_low` meets its contract. The invariant: the first j rows of the lower triangle are +0, and all else is as it was.
+-- The measure: p - j. Assumes nothing.
 use mathlib.Core.Path.{refl}
 use Prim.Native.Nat.{_-_}
 use native.Mathlib.Omega.{arith}

@@ -1,4 +1,4 @@
--- `lazy_gram::column` meets its contract. Assumes nothing.
+-- `lazy_gram::column` meets its contract: the pairs with earlier columns, then the left panel with itself. Assumes nothing.
 use Prim.Native.Nat.{_*_}
 use native.Mathlib.Omega.{arith}
 use Rattle.lazy_gram.proofs.Nest.{rows-room, column-pairs, column-block, column-turn}

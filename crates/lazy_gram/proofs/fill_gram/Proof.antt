@@ -1,4 +1,4 @@
--- `lazy_gram::fill_gram` meets its contract. Assumes nothing.
+-- `lazy_gram::fill_gram` meets its contract: cleared sums start from +0, and the sweep changes nothing. Assumes nothing.
 use mathlib.Core.Path.{_∙_}
 use native.Mathlib.Omega.{arith}
 use Rattle.lazy_gram.proofs.Whole.{gram-rows, gram-clear, gram-done}

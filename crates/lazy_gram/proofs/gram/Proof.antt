@@ -1,6 +1,6 @@
--- `lazy_gram::gram` meets its contract. Assumes nothing.
+-- `lazy_gram::gram` meets its contract: the last `fill` covers just the panels, where `fill_gram` promises nothing. Assumes nothing.
 use native.Mathlib.Omega.{arith}
-use Rattle.arrays.specs.Part.{length-put}
+use Rattle.arrays.proofs.Part.{length-put}
 use Rattle.lazy_gram.proofs.Whole.{lent-rows, lent-order, lent-fill, lent-done}
 use Rattle.lazy_gram.proofs.gram.Statement.{statement}
 use Rattle.lazy_gram.proofs.gram.Tie as tie

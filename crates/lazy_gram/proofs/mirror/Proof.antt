@@ -1,4 +1,5 @@
--- `lazy_gram::mirror` meets its contract. Assumes nothing.
+-- `lazy_gram::mirror` meets its contract. The invariant: the first k rows are mirrored to the right of the diagonal, and all else is as it was.
+-- The measure: p - k. Assumes nothing.
 use mathlib.Core.Path.{_≡_, refl, sym, ap, _∙_}
 use Prim.Native.Nat.{ℕ, suc, _+_, _-_, _*_, _≤_, _<_}
 use native.Mathlib.Nat.{mul-add, mul-one, suc-mul, add-mul}

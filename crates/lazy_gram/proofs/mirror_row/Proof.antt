@@ -1,10 +1,12 @@
--- `lazy_gram::mirror_row` meets its contract. Assumes nothing.
+-- `lazy_gram::mirror_row` meets its contract. The invariant: the first b elements of the column are copied into the row, and all else is as it was.
+-- The measure: n - b. Assumes nothing.
 use mathlib.Core.List.{List}
 use Prim.Native.Nat.{ℕ, _+_, _-_, _*_, _≤_, _<_}
 use native.Mathlib.Omega.{arith}
 use lib.ListN.{set}
 use lib.Ieee.{Float, nan}
-use Rattle.arrays.specs.Part.{tab, length-tab, getD-put-below}
+use Rattle.arrays.specs.Part.{tab}
+use Rattle.arrays.proofs.Part.{length-tab, getD-put-below}
 use Rattle.arrays.proofs.Turns.{Made, made-none, made-more, made-all}
 use Rattle.gram_panels.proofs.Mats.{row-le}
 use Rattle.lazy_gram.specs.Nest.{across}

@@ -1,4 +1,5 @@
--- `lazy_gram::pairs` meets its contract. The invariant: but for the right panel, the sums of the first kb * cc columns are advanced. Assumes nothing.
+-- `lazy_gram::pairs` meets its contract. The invariant: but for the right panel, the sums of the first kb * cc columns are advanced, and all else is as it was.
+-- The measure: jb - kb. Assumes nothing.
 use mathlib.Core.Path.{_≡_, refl, _∙_}
 use Prim.Native.Nat.{_+_, _-_, _*_, _≤_}
 use native.Mathlib.Omega.{arith}

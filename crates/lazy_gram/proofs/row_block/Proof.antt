@@ -1,4 +1,5 @@
--- `lazy_gram::row_block` meets its contract. The invariant: but for the panels, the sums of the first j rows of the Gram are advanced. Assumes nothing.
+-- `lazy_gram::row_block` meets its contract. The invariant: j is jb * cc and, but for the panels, the Gram's first j rows are advanced, all else as it was.
+-- The measure: p - j. Assumes nothing.
 use mathlib.Core.Path.{_≡_, refl, sym, _∙_}
 use Prim.Native.Nat.{_+_, _-_, _*_, _≤_}
 use native.Mathlib.Nat.{zero-mul, suc-mul}

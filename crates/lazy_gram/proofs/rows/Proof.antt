@@ -1,4 +1,5 @@
--- `lazy_gram::rows` meets its contract. The invariant: but for the panels, the sums are those over the first `row` rows. Assumes nothing.
+-- `lazy_gram::rows` meets its contract. The invariant: but for the panels, the sums are those over the first `row` rows, and all else is as it was.
+-- The measure: n - row. Assumes nothing.
 use mathlib.Core.Path.{_≡_, refl, _∙_}
 use Prim.Native.Nat.{_+_, _-_, _*_, _≤_}
 use native.Mathlib.Nat.{mul-le-mul-right}

@@ -1,4 +1,5 @@
--- `lazy_normalization::add_row` meets its contract. Assumes nothing.
+-- `lazy_normalization::add_row` meets its contract. The invariant: the first j sums have the row's product added, and all else is as it was.
+-- The measure: p - j. Assumes nothing.
 use Prim.Native.Nat.{ℕ, _+_, _-_, _≤_}
 use native.Mathlib.Omega.{arith}
 use Rattle.numbers.specs.Ops.{_⊕_, _⊗_}

@@ -1,4 +1,5 @@
--- `lazy_normalization::augment` meets its contract. Assumes nothing.
+-- `lazy_normalization::augment` meets its contract. The invariant: the first j sums are augmented, and all else is as it was.
+-- The measure: p - j. Assumes nothing.
 use Prim.Native.Nat.{_-_}
 use native.Mathlib.Omega.{arith}
 use lib.Ieee.{Float}

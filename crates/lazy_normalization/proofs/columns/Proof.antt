@@ -1,9 +1,10 @@
--- `lazy_normalization::columns` meets its contract: over the slice as `fill` left it, the sums of the first i rows are written. Assumes nothing.
+-- `lazy_normalization::columns` meets its contract. The invariant: row i begins at `at`, and over what `fill` left the sums of the first i rows are written.
+-- The measure: n - i. Assumes nothing.
 use Prim.Native.Nat.{_+_, _-_, _*_, _≤_}
 use mathlib.Core.Path.{_≡_, refl}
 use native.Mathlib.Omega.{arith}
 use Rattle.arrays.proofs.Turns.{Made}
-use Rattle.matrices.specs.Products.{row-room, next-row}
+use Rattle.matrices.proofs.Lengths.{row-room, next-row}
 use Rattle.lazy_normalization.proofs.Products.{columnSum, none, columns-more, columns-all, columns-end}
 use Rattle.lazy_normalization.proofs.columns.Statement.{statement}
 use Rattle.lazy_normalization.proofs.columns.Tie as tie

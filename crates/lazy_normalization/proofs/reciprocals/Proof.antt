@@ -1,11 +1,14 @@
--- `lazy_normalization::reciprocals` meets its contract. Assumes nothing.
+-- `lazy_normalization::reciprocals` meets its contract. The invariant: the first j reciprocals are written, and all else is as it was.
+-- The measure: p - j. Assumes nothing.
 use Prim.Native.Nat.{_-_}
 use mathlib.Core.Path.{ap, _∙_}
 use native.Mathlib.Omega.{arith}
-use Rattle.arrays.specs.Part.{part, tab, length-tab}
+use Rattle.arrays.specs.Part.{part, tab}
+use Rattle.arrays.proofs.Part.{length-tab}
 use Rattle.arrays.specs.Sums.{_!_}
 use Rattle.arrays.proofs.Turns.{Made, made-none, made-more, kept, made-all}
-use Rattle.layout.specs.Slots.{words, start, then}
+use Rattle.layout.specs.Slots.{words}
+use Rattle.layout.proofs.Slots.{start, then}
 use Rattle.layout.specs.Slots.{Slot.SCALE, Slot.RECIP}
 use Rattle.lazy_normalization.specs.Lazy.{reciprocalOf, recipStore}
 use Rattle.lazy_normalization.proofs.reciprocals.Statement.{statement}

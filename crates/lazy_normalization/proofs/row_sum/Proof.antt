@@ -1,9 +1,10 @@
--- `lazy_normalization::row_sum` meets its contract. Assumes nothing.
+-- `lazy_normalization::row_sum` meets its contract. The invariant: x is the sum of the first j products, from +0. The measure: p - j. Assumes nothing.
 use Prim.Native.Nat.{_-_, _≤_}
 use mathlib.Core.Path.{_≡_, sym}
 use native.Mathlib.Omega.{arith}
 use Rattle.arrays.specs.Part.{part}
-use Rattle.arrays.specs.Sums.{_!_, products, plus0, fold-none}
+use Rattle.arrays.specs.Sums.{_!_, products, plus0}
+use Rattle.arrays.proofs.Folds.{fold-none}
 use Rattle.lazy_normalization.proofs.Entries.{rowOf, row-more}
 use Rattle.lazy_normalization.proofs.row_sum.Statement.{statement}
 use Rattle.lazy_normalization.proofs.row_sum.Tie as tie

@@ -1,10 +1,11 @@
--- `lazy_normalization::rows` meets its contract. Assumes nothing.
+-- `lazy_normalization::rows` meets its contract. The invariant: row i begins at `at`, and the first i elements are written, all else as it was.
+-- The measure: n - i. Assumes nothing.
 use Prim.Native.Nat.{_-_, _*_}
 use mathlib.Core.Path.{_≡_}
 use native.Mathlib.Omega.{arith}
 use Rattle.numbers.specs.Ops.{_⊗_}
 use Rattle.arrays.proofs.Turns.{Made, made-none}
-use Rattle.matrices.specs.Products.{row-room, next-row}
+use Rattle.matrices.proofs.Lengths.{row-room, next-row}
 use Rattle.lazy_normalization.specs.Lazy.{lazyRows}
 use Rattle.lazy_normalization.proofs.Products.{rowSum, rows-more, rows-all}
 use Rattle.lazy_normalization.proofs.rows.Statement.{statement}

@@ -1,4 +1,5 @@
--- `line_search::faces` meets its contract. Assumes nothing.
+-- `line_search::faces` meets its contract. The invariant: the pairs of the first i weights are written, the next goes to `at`, and all else is as it was.
+-- The measure: p - i. Assumes nothing.
 use Prim.Native.Nat.{_-_}
 use mathlib.Core.Bool.{cond}
 use native.Mathlib.Omega.{arith}

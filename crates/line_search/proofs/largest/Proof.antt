@@ -1,12 +1,14 @@
--- `line_search::largest` meets its contract. Assumes nothing.
+-- `line_search::largest` meets its contract. The invariant: t is the largest of the first i elements, from -infinity. The measure: n - i. Assumes nothing.
 use Prim.Native.Nat.{_≤_, _-_}
 use mathlib.Core.Path.{_≡_, sym, _∙_}
 use mathlib.Core.Bool.{true}
 use native.Mathlib.Omega.{arith}
 use lib.Ieee.{Float, nan, inf, div, neg, ofBits}
 use Rattle.numbers.specs.Order.{maximumOf}
-use Rattle.arrays.specs.Part.{part, getD-part}
-use Rattle.arrays.specs.Sums.{_!_, fold-none, fold-turn, foldTo}
+use Rattle.arrays.specs.Part.{part}
+use Rattle.arrays.proofs.Part.{getD-part}
+use Rattle.arrays.specs.Sums.{_!_, foldTo}
+use Rattle.arrays.proofs.Folds.{fold-none, fold-turn}
 use Rattle.line_search.specs.Search.{largestOf}
 use Rattle.line_search.proofs.largest.Statement.{statement}
 use Rattle.line_search.proofs.largest.Tie as tie

@@ -1,11 +1,13 @@
--- `line_search::sumlogneg` meets its contract. Assumes nothing.
+-- `line_search::sumlogneg` meets its contract. The invariant: t is the sum of the first i logarithms, from +0. The measure: n - i. Assumes nothing.
 use Prim.Native.Nat.{_≤_, _-_}
 use mathlib.Core.Path.{_≡_, sym}
 use native.Mathlib.Omega.{arith}
 use lib.Ieee.{nan, neg}
 use Rattle.logarithm.specs.Log.{lnOf}
-use Rattle.arrays.specs.Part.{part, getD-part}
-use Rattle.arrays.specs.Sums.{_!_, fold-none, fold-turn, sumTo, plus0}
+use Rattle.arrays.specs.Part.{part}
+use Rattle.arrays.proofs.Part.{getD-part}
+use Rattle.arrays.specs.Sums.{_!_, sumTo, plus0}
+use Rattle.arrays.proofs.Folds.{fold-none, fold-turn}
 use Rattle.line_search.specs.Search.{sumlognegOf}
 use Rattle.line_search.proofs.sumlogneg.Statement.{statement}
 use Rattle.line_search.proofs.sumlogneg.Tie as tie

@@ -36,7 +36,7 @@ returns : tie.Need-returns
 unfolding lnAt
 returns c =
     let start = c .before .before in
-    c .close .ensures ∙ (simp (lt-ltb _ 3 (c .before .if1 .taken)) at (ln-at-power (start .args .power) (start .args .low) (start .pre .2)))
+    c .close .ensures ∙ (simp (lt-ltb _ 3 (c .before .if1 .taken)) at (ln-at-power (start .args .power) (start .args .low) (start .pre .1 .1)))
 
 far-requires : tie.Need-far-requires
 far-requires c κs = search needs
@@ -45,7 +45,7 @@ returns-2 : tie.Need-returns-2
 unfolding lnAt
 returns-2 c =
     let start = c .before .before in
-    c .far .ensures ∙ (simp (le-ltb _ 3 (c .before .if1 .left)) at (ln-at-power (start .args .power) (start .args .low) (start .pre .2)))
+    c .far .ensures ∙ (simp (le-ltb _ 3 (c .before .if1 .left)) at (ln-at-power (start .args .power) (start .args .low) (start .pre .1 .1)))
 
 pub normal-ln-spec : {M : Type 1} → statement M
 normal-ln-spec =

@@ -69,7 +69,7 @@ returns-8 c =
 values-requires : tie.Need-values-requires
 values-requires c κs =
     let d = c .before .before .before .before in
-    (long d .matrix, long d .right, sized (d .before .before .before) .most)
+    (long d .matrix, (long d .right, sized (d .before .before .before) .most))
 
 returns-9 : tie.Need-returns-9
 returns-9 c =

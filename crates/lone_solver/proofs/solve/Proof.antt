@@ -1,4 +1,4 @@
--- `lone_solver::solve` meets its contract. Assumes nothing.
+-- `lone_solver::solve` meets its contract: a check that passes gives what `run` asks. Assumes nothing.
 use native.Mathlib.Omega.{arith}
 use borrow.Author.Needs.{needs}
 use Rattle.lone_solver.proofs.Checks.{passed}
@@ -9,14 +9,8 @@ use Rattle.lone_solver.proofs.solve.Tie as tie
 check-requires : tie.Need-check-requires
 check-requires c κs = tt
 
-enum-told : tie.Need-enum-told
-enum-told c = search needs
-
-enum-told-2 : tie.Need-enum-told-2
-enum-told-2 c = search needs
-
-refused-requires : tie.Need-refused-requires
-refused-requires c κs = tt
+enum-known-c : tie.Need-enum-known-c
+enum-known-c c = search needs
 
 same-length : tie.Need-same-length
 same-length c = search needs
@@ -24,7 +18,10 @@ same-length c = search needs
 returns : tie.Need-returns
 returns c =
     let k = c .before .before .before in
-    refuses _ _ _ _ _ _ _ (k .check .result) _ (c .refused .result) (k .check .ensures) (c .before .enum-told2 .given .1) (c .refused .ensures)
+    refuses _ _ _ _ _ _ _ (k .check .result) _ (k .check .ensures) (c .before .c .given .1)
+
+enum-told : tie.Need-enum-told
+enum-told c = search needs
 
 run-requires : tie.Need-run-requires
 run-requires c κs =
@@ -69,11 +66,10 @@ solve-spec =
     tie.close
     (tie.spec
     check-requires
-    enum-told
-    enum-told-2
-    refused-requires
+    enum-known-c
     same-length
     returns
+    enum-told
     run-requires
     sweep-requires
     canonical-requires

@@ -54,7 +54,7 @@ at-requires-2 : tie.Need-at-requires-2
 at-requires-2 c κs =
     let d = c .before .before in
     let s = d .before .before .before .before .before .before .before in
-    let l = mul-le-mul (s .pre .2) (s .pre .2) in
+    let l = mul-le-mul (s .pre .1 .1) (s .pre .1 .1) in
     near (d .first-infinite2 .result) _ _ _ (d .first-infinite2 .ensures) (c .enum-told4 .given .1) (omega arith) (omega arith)
 
 returns-2 : tie.Need-returns-2
@@ -86,7 +86,7 @@ at-requires-3 : tie.Need-at-requires-3
 at-requires-3 c κs =
     let d = c .before .before in
     let s = d .before .before .before .before .before .before .before .before .before .before in
-    let l = mul-le-mul (s .pre .2) (s .pre .2) in
+    let l = mul-le-mul (s .pre .1 .1) (s .pre .1 .1) in
     near (d .first-infinite3 .result) _ _ _ (d .first-infinite3 .ensures) (c .enum-told6 .given .1) (omega arith) (omega arith)
 
 returns-3 : tie.Need-returns-3
@@ -99,7 +99,7 @@ returns-3 c =
     c .at3 .ensures
     ∙ in-start (g .a .now) (g .b .now) (g .x .now) (g .tol) (g .limit) (d1 .first-infinite .result) (d2 .first-infinite2 .result) (d3 .first-infinite3 .result) _ _
     (d1 .first-infinite .ensures) (d2 .first-infinite2 .ensures) (d3 .first-infinite3 .ensures) (d2 .before .enum-told .given .1) (d3 .before .enum-told3 .given .1)
-    (c .before .enum-told6 .given .1) (rw (s .pre .0, s .pre .1))
+    (c .before .enum-told6 .given .1) (rw (s .pre .0, s .pre .1 .0))
 
 abbrev at-start : tie.After-enum-told5 → tie.Start
 at-start c = c .before .before .before .before .before .before .before .before .before .before .before .before

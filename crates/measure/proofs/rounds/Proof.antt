@@ -1,4 +1,5 @@
--- `measure::rounds` meets its contract. Assumes nothing.
+-- `measure::rounds` meets its contract. The contract asks only that it runs. The invariant: the scratch keeps its length.
+-- The measure: count - i. Assumes nothing.
 use Prim.Native.Nat.{_≤_, _-_}
 use mathlib.Core.Path.{_≡_}
 use lib.ListN.{length}

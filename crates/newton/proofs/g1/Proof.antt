@@ -1,4 +1,5 @@
--- `newton::g1` meets its contract. Assumes nothing.
+-- `newton::g1` meets its contract. The invariant: the first i elements of gradphi have become those of g1, and all else is as it was.
+-- The measure: p - i. Assumes nothing.
 use Prim.Native.Nat.{_-_}
 use native.Mathlib.Omega.{arith}
 use lib.Ieee.{Float}

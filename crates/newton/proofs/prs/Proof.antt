@@ -1,4 +1,4 @@
--- `newton::prs` meets its contract. Assumes nothing.
+-- `newton::prs` meets its contract. The invariant: the first i elements are written, and all else is as it was. The measure: p - i. Assumes nothing.
 use Prim.Native.Nat.{_-_}
 use native.Mathlib.Omega.{arith}
 use lib.Ieee.{Float}

@@ -1,4 +1,4 @@
--- `newton::sum_of_squares` meets its contract. Assumes nothing.
+-- `newton::sum_of_squares` meets its contract. The invariant: the first i elements are written, and all else is as it was. The measure: p - i. Assumes nothing.
 use Prim.Native.Nat.{_-_}
 use native.Mathlib.Omega.{arith}
 use Rattle.arrays.specs.Part.{part}

@@ -1,6 +1,7 @@
 -- `newton_step::barrier` meets its contract. Assumes nothing.
 use native.Mathlib.Omega.{arith}
-use Rattle.layout.specs.Slots.{start, words}
+use Rattle.layout.specs.Slots.{words}
+use Rattle.layout.proofs.Slots.{start}
 use Rattle.newton_step.proofs.Stores.{barrier-left}
 use Rattle.newton_step.proofs.barrier.Statement.{statement}
 use Rattle.newton_step.proofs.barrier.Tie as tie

@@ -2,7 +2,8 @@
 use mathlib.Core.Path.{_≡_, _∙_}
 use native.Mathlib.Omega.{arith}
 use lib.ListN.{length}
-use Rattle.layout.specs.Slots.{start, words}
+use Rattle.layout.specs.Slots.{words}
+use Rattle.layout.proofs.Slots.{start}
 use Rattle.newton_step.proofs.Stores.{gradient-left}
 use Rattle.newton_step.proofs.gradient.Statement.{statement}
 use Rattle.newton_step.proofs.gradient.Tie as tie

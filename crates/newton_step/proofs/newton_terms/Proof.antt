@@ -1,6 +1,6 @@
 -- `newton_step::newton_terms` meets its contract. Assumes nothing.
 use native.Mathlib.Omega.{arith}
-use Rattle.layout.specs.Slots.{next}
+use Rattle.layout.proofs.Slots.{next}
 use Rattle.design.proofs.Lengths.{held-on}
 use Rattle.lasso_optimizer.specs.Opening.{gradientStore, preconditionerStore, newtonStore}
 use Rattle.newton_step.proofs.newton_terms.Statement.{statement}

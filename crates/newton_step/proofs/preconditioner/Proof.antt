@@ -1,6 +1,7 @@
 -- `newton_step::preconditioner` meets its contract. Assumes nothing.
 use native.Mathlib.Omega.{arith}
-use Rattle.layout.specs.Slots.{start, words}
+use Rattle.layout.specs.Slots.{words}
+use Rattle.layout.proofs.Slots.{start}
 use Rattle.newton_step.proofs.Stores.{preconditioner-left}
 use Rattle.newton_step.proofs.preconditioner.Statement.{statement}
 use Rattle.newton_step.proofs.preconditioner.Tie as tie

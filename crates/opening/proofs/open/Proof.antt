@@ -1,9 +1,10 @@
--- `opening::open` meets its contract. Assumes nothing.
+-- `opening::open` meets its contract: one return where it has converged, one where the tolerance is not positive, one where the solver is ready.
+-- Assumes nothing.
 use mathlib.Core.Path.{_≡_, _∙_}
 use native.Mathlib.Omega.{arith}
 use lib.ListN.{length}
 use Rattle.design.proofs.Lengths.{held-on}
-use Rattle.opening.proofs.Returns.{open-done, open-tiny, open-ready}
+use Rattle.opening.proofs.Returns.{open-done, open-fails, open-ready}
 use Rattle.opening.proofs.open.Statement.{statement}
 use Rattle.opening.proofs.open.Tie as tie
 
@@ -57,7 +58,7 @@ returns-2 c =
     let g = gap-of n in
     let a = from-gap g .args in
     let d = g .gap .ensures in
-    open-tiny (a .sh) (a .tm) _ (a .tol) (a .r) (a .a) _ (d .gap-is) (d .dual-is) (d .left)
+    open-fails (a .sh) (a .tm) _ (a .tol) (a .r) (a .a) _ (d .gap-is) (d .dual-is) (d .left)
     (n .before .before .next-t .ensures) (n .newton-terms .ensures) (c .before .pcgtol .ensures) (n .before .before .before .if1 .left) (c .if2 .taken)
 
 begin-requires : tie.Need-begin-requires

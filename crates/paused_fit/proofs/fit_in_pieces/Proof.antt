@@ -6,7 +6,7 @@ use mathlib.Core.List.{[], _∷_}
 use lib.ListN.{length}
 use Rattle.pause.specs.Progress.{total}
 use Rattle.promises.specs.Chain.{Enough}
-use Rattle.whole_fit.proofs.Returns.{start-refuses, many-weights, few, runs}
+use Rattle.whole_fit.proofs.Returns.{start-refuses, many-weights, few, has-ended, settles}
 use Rattle.paused_fit.proofs.fit_in_pieces.Statement.{statement}
 use Rattle.paused_fit.proofs.fit_in_pieces.Tie as tie
 
@@ -45,6 +45,14 @@ resumed-requires c κs =
     let g = from t .args in
     many-weights (g .n) (g .p) (g .x .now) (g .y .now) (g .st) (g .s .now) (g .w .now) (t .start-whole .result) (t .start-whole .ensures) (ready c .fresh .given .1)
 
+settled-requires : tie.Need-settled-requires
+settled-requires c κs =
+    let u = c .before .before .before .before in
+    let t = begun (u .before) in
+    let g = from t .args in
+    has-ended (g .n) (g .p) (g .x .now) (g .y .now) (g .st) (g .s .now) (g .w .now) (t .start-whole .result) (t .start-whole .ensures)
+    (ready (u .before) .fresh .given .1) (u .resumed .result) (enough (g .st .rounds) (g .first) (g .second)) (u .resumed .ensures)
+
 enum-known-r : tie.Need-enum-known-r
 enum-known-r c = c .match .keys2
 
@@ -52,18 +60,19 @@ refused-requires : tie.Need-refused-requires
 refused-requires c κs = tt
 
 same-length : tie.Need-same-length
-same-length c = c .before .before .before .before .resumed .kept .1 .1 .1 .1 .1 .1 .0 ∙ scratch (begun (c .before .before .before .before .before))
+same-length c =
+    c .before .before .before .before .before .resumed .kept .1 .1 .1 .1 .1 .1 .0 ∙ scratch (begun (c .before .before .before .before .before .before))
 
 same-length-2 : tie.Need-same-length-2
-same-length-2 c = c .before .before .before .before .resumed .kept .1 .1 .1 .1 .1 .1 .1 .0
+same-length-2 c = c .before .before .before .before .before .resumed .kept .1 .1 .1 .1 .1 .1 .1 .0
 
 returns : tie.Need-returns
 returns c =
-    let u = c .before .before .before .before in
+    let u = c .before .before .before .before .before in
     let t = begun (u .before) in
     let g = from t .args in
-    runs (g .n) (g .p) (g .x .now) (g .y .now) (g .st) (g .s .now) (g .w .now) (t .start-whole .result) (t .start-whole .ensures) (ready (u .before) .fresh .given .1)
-    (u .resumed .result) (enough (g .st .rounds) (g .first) (g .second)) (u .resumed .ensures)
+    settles (g .n) (g .p) (g .x .now) (g .y .now) (g .st) (g .s .now) (g .w .now) (t .start-whole .result) (t .start-whole .ensures)
+    (ready (u .before) .fresh .given .1) (u .resumed .result) (enough (g .st .rounds) (g .first) (g .second)) (u .resumed .ensures) (c .settled .ensures)
 
 same-length-3 : tie.Need-same-length-3
 same-length-3 c = scratch (c .before .before .before .before .before .before)
@@ -83,6 +92,7 @@ fit-in-pieces-spec =
     enum-known-fresh
     mul-resumed
     resumed-requires
+    settled-requires
     enum-known-r
     refused-requires
     same-length

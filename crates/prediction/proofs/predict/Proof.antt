@@ -8,17 +8,16 @@ use lib.Ieee.{Float}
 use Rattle.refusal.specs.declared.Refusal.{Refusal}
 use Rattle.refusal.specs.declared.Checked.{Checked}
 use Rattle.refusal.specs.declared.Checked.the-variants.{Fine, Bad}
-use Rattle.prediction.specs.declared.Predicted.{Predicted}
-use Rattle.prediction.specs.declared.Predicted.the-variants.{Done}
-use Rattle.prediction.specs.Predict.{Outcome.outcome, checkedOf, predictedOf, predictOf, refusedOf}
+use Rattle.prediction.specs.declared.Predicted.the-variants.{Done, Refused}
+use Rattle.prediction.specs.Predict.{Outcome.outcome, checkedOf, predictedOf, predictOf}
 use Rattle.prediction.proofs.Checks.{passed}
 use Rattle.prediction.proofs.predict.Statement.{statement}
 use Rattle.prediction.proofs.predict.Tie as tie
 
 module _ (n p : ℕ) (x w : List Float) (b : Float) (o : List Float) (k : Checked) (e : k ≡ checkedOf n p x w b (length o)) where
-  refuses : (q : Refusal) (r : Predicted) → k ≡ Bad q → r ≡ refusedOf k → outcome r o ≡ predictOf n p x w b o
+  refuses : (q : Refusal) → k ≡ Bad q → outcome (Refused q) o ≡ predictOf n p x w b o
   unfolding predictOf
-  refuses q r t h = rw (← e, h, t)
+  refuses q t = rw (← e, t)
 
   predicts : (o′ : List Float) → k ≡ Fine → o′ ≡ predictedOf n p x w b → outcome Done o′ ≡ predictOf n p x w b o
   unfolding predictOf
@@ -27,19 +26,16 @@ module _ (n p : ℕ) (x w : List Float) (b : Float) (o : List Float) (k : Checke
 check-requires : tie.Need-check-requires
 check-requires c κs = tt
 
-enum-told : tie.Need-enum-told
-enum-told c = search needs
-
-enum-told-2 : tie.Need-enum-told-2
-enum-told-2 c = search needs
-
-refused-requires : tie.Need-refused-requires
-refused-requires c κs = tt
+enum-known-c : tie.Need-enum-known-c
+enum-known-c c = search needs
 
 returns : tie.Need-returns
 returns c =
     let k = c .before .before .before .check in
-    refuses _ _ _ _ _ _ (k .result) (k .ensures) _ (c .refused .result) (c .before .enum-told2 .given .1) (c .refused .ensures)
+    refuses _ _ _ _ _ _ (k .result) (k .ensures) _ (c .before .c .given .1)
+
+enum-told : tie.Need-enum-told
+enum-told c = search needs
 
 rows-requires : tie.Need-rows-requires
 rows-requires c κs =
@@ -59,14 +55,4 @@ returns-2 c =
     predicts _ _ _ _ _ _ (k .result) (k .ensures) _ (t .enum-told .given .1) (m .rows .ensures)
 
 pub predict-spec : {M : Type 1} → statement M
-predict-spec =
-    tie.close
-    (tie.spec
-    check-requires
-    enum-told
-    enum-told-2
-    refused-requires
-    returns
-    rows-requires
-    same-length
-    returns-2)
+predict-spec = tie.close (tie.spec check-requires enum-known-c returns enum-told rows-requires same-length returns-2)

@@ -1,4 +1,5 @@
--- `prediction::rows` meets its contract: the predictions of the first i rows are written. Assumes nothing.
+-- `prediction::rows` meets its contract. The invariant: the predictions of the first i rows are written, and the others are as they were.
+-- The measure: n - i. Assumes nothing.
 use mathlib.Core.Path.{_≡_, _∙_}
 use mathlib.Core.List.{List}
 use Prim.Native.Nat.{ℕ, _+_, _-_, _*_, _≤_}
@@ -6,8 +7,10 @@ use native.Mathlib.Nat.{zero-add, suc-mul, mul-le-mul, mul-le-mul-right}
 use native.Mathlib.Omega.{arith}
 use lib.Ieee.{Float, nan}
 use Rattle.numbers.specs.Ops.{_⊕_}
-use Rattle.arrays.specs.Part.{part, getD-part, length-tab, put-all}
-use Rattle.arrays.specs.Sums.{_!_, products, plus0, productOf, fold-ext}
+use Rattle.arrays.specs.Part.{part}
+use Rattle.arrays.proofs.Part.{getD-part, length-tab, put-all}
+use Rattle.arrays.specs.Sums.{_!_, products, plus0, productOf}
+use Rattle.arrays.proofs.Folds.{fold-ext}
 use Rattle.arrays.proofs.Turns.{Made, made-none, made-more, made-all}
 use Rattle.prediction.specs.Predict.{predictedOf}
 use Rattle.prediction.proofs.rows.Statement.{statement}

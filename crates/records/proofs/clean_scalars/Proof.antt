@@ -1,4 +1,4 @@
--- `records::clean_scalars` meets its contract. Assumes nothing.
+-- `records::clean_scalars` meets its contract: `canonical` changes no number. Assumes nothing.
 use borrow.Author.Needs.{needs}
 use Rattle.records.proofs.clean_scalars.Statement.{statement}
 use Rattle.records.proofs.clean_scalars.Tie as tie

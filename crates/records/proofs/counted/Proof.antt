@@ -1,4 +1,4 @@
--- `records::counted` meets its contract. Assumes nothing.
+-- `records::counted` meets its contract: each return is the first test that fails. Assumes nothing.
 use borrow.Author.Needs.{needs}
 use borrow.Author.Tests.{le-leb, lt-leb, eq-eqb, ne-eqb}
 use Rattle.records.specs.Records.{countedOf}

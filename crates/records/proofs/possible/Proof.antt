@@ -1,4 +1,4 @@
--- `records::possible` meets its contract. Assumes nothing.
+-- `records::possible` meets its contract: each return is the first test that fails, stage by stage. Assumes nothing.
 use borrow.Author.Needs.{needs}
 use borrow.Author.Tests.{lt-ltb, le-ltb, le-leb, lt-leb, eq-eqb, ne-eqb}
 use Rattle.records.specs.Records.{possibleOf, possibleAt}

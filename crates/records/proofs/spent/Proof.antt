@@ -1,4 +1,4 @@
--- `records::spent` meets its contract. Assumes nothing.
+-- `records::spent` meets its contract: each arm is that of `spentOf`. Assumes nothing.
 use borrow.Author.Needs.{needs}
 use Rattle.records.specs.Records.{spentAt, spentOf}
 use Rattle.records.proofs.spent.Statement.{statement}

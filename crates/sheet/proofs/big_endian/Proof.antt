@@ -1,4 +1,5 @@
--- `sheet::big_endian` meets its contract: at the loop's head v is the number in the j bytes passed, and below 256 ^ j. Assumes nothing.
+-- `sheet::big_endian` meets its contract. The invariant: v is the number in the first j bytes, and below 256 ^ j, so that nothing overflows.
+-- The measure: k - j. Assumes nothing.
 use mathlib.Core.Path.{_≡_, refl}
 use mathlib.Core.List.{List}
 use Prim.Native.Nat.{ℕ, _+_, _-_, _*_, _^_, _≤_, _<_}

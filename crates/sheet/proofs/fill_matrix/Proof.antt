@@ -1,4 +1,5 @@
--- `sheet::fill_matrix` meets its contract: at the loop's head i rows are written, and `at` is the place of row i's first feature. Assumes nothing.
+-- `sheet::fill_matrix` meets its contract. The invariant: the first i rows are written, and `at` is the place of row i's first feature.
+-- The measure: n - i. Assumes nothing.
 use mathlib.Core.Path.{_≡_, sym, _∙_}
 use mathlib.Core.List.{List}
 use Prim.Native.Nat.{ℕ, _+_, _-_, _*_, _≤_}
@@ -6,9 +7,11 @@ use native.Mathlib.Nat.{zero-add}
 use native.Mathlib.Omega.{arith}
 use lib.ListN.{length}
 use lib.Ieee.{Float}
-use Rattle.arrays.specs.Part.{put, tab, put-all}
-use Rattle.matrices.specs.Grid.{grid, length-grid, put-grid-none, put-grid-more}
-use Rattle.matrices.specs.Products.{row-room, next-row}
+use Rattle.arrays.specs.Part.{put, tab}
+use Rattle.arrays.proofs.Part.{put-all}
+use Rattle.matrices.specs.Grid.{grid}
+use Rattle.matrices.proofs.Grid.{length-grid, put-grid-none, put-grid-more}
+use Rattle.matrices.proofs.Lengths.{row-room, next-row}
 use Rattle.sheet.specs.Bytes.{float-at}
 use Rattle.sheet.specs.Sheet.{row-at, matrixOf}
 use Rattle.sheet.proofs.fill_matrix.Statement.{statement}

@@ -1,4 +1,4 @@
--- `sheet::fill_row` meets its contract. Assumes nothing.
+-- `sheet::fill_row` meets its contract. The invariant: the first j features are written, and all else is as it was. The measure: p - j. Assumes nothing.
 use Prim.Native.Nat.{_+_, _-_, _*_}
 use native.Mathlib.Omega.{arith}
 use Rattle.arrays.proofs.Turns.{Made, made-none, made-more, made-all}

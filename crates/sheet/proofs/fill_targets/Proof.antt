@@ -1,11 +1,12 @@
--- `sheet::fill_targets` meets its contract: at the loop's head `at` is the place of row i's score. Assumes nothing.
+-- `sheet::fill_targets` meets its contract. The invariant: the first i scores are written, and `at` is the place of row i's score.
+-- The measure: n - i. Assumes nothing.
 use mathlib.Core.Path.{_≡_, sym, ap, _∙_}
 use Prim.Native.Nat.{_+_, _-_, _*_}
 use native.Mathlib.Nat.{zero-add}
 use native.Mathlib.Omega.{arith}
-use Rattle.arrays.specs.Part.{length-tab, put-all}
+use Rattle.arrays.proofs.Part.{length-tab, put-all}
 use Rattle.arrays.proofs.Turns.{Made, made-none, made-more, made-all}
-use Rattle.matrices.specs.Products.{row-room, next-row}
+use Rattle.matrices.proofs.Lengths.{row-room, next-row}
 use Rattle.sheet.specs.Bytes.{float-at}
 use Rattle.sheet.specs.Sheet.{row-at, targetsOf}
 use Rattle.sheet.proofs.fill_targets.Statement.{statement}
@@ -70,7 +71,7 @@ unfolding targetsOf
 returns c =
     let l = c .before in
     let s = l .before .before .before in
-    made-all (l .loop .inv .0) (omega arith) ∙ put-all _ _ (length-tab _ _ ∙ sym (s .pre .2))
+    made-all (l .loop .inv .0) (omega arith) ∙ put-all _ _ (length-tab _ _ ∙ sym (s .pre .1 .1))
 
 pub fill-targets-spec : {M : Type 1} → statement M
 fill-targets-spec =

@@ -1,4 +1,4 @@
--- `sheet::pair_rises` meets its contract. Assumes nothing.
+-- `sheet::pair_rises` meets its contract: the row before ends where row i begins, so both lie within the bytes. Assumes nothing.
 use mathlib.Core.Path.{_≡_, _∙_}
 use Prim.Native.Nat.{_+_, _-_, _*_}
 use native.Mathlib.Omega.{arith}

@@ -1,10 +1,10 @@
--- `sheet::rows_check` meets its contract: at the loop's head the answer is that of the rows that are left. Assumes nothing.
+-- `sheet::rows_check` meets its contract. The invariant: the answer is that of the rows that are left, from i on. The measure: n - i. Assumes nothing.
 use mathlib.Core.Path.{_≡_, sym, _∙_}
 use mathlib.Core.List.{List}
 use Prim.Native.Nat.{ℕ, _+_, _-_, _*_, _≤_}
 use native.Mathlib.Omega.{arith}
 use borrow.Author.Needs.{needs}
-use Rattle.matrices.specs.Products.{row-room}
+use Rattle.matrices.proofs.Lengths.{row-room}
 use Rattle.refusal.specs.declared.Checked.the-variants.{Fine}
 use Rattle.sheet.specs.Sheet.{rowsFrom}
 use Rattle.sheet.proofs.Rows.{row-passed, row-refused}

@@ -1,13 +1,14 @@
 -- `sheet_api::due` meets its contract. Assumes nothing.
 use borrow.Author.Tests.{eq-eqb, ne-eqb}
+use Rattle.sheet_api.specs.Calls.{header-words}
 use Rattle.sheet_api.proofs.due.Statement.{statement}
 use Rattle.sheet_api.proofs.due.Tie as tie
 
 returns : tie.Need-returns
-returns c = rw (ne-eqb _ 10 (c .if1 .taken))
+returns c = rw (ne-eqb _ header-words (c .if1 .taken))
 
 returns-2 : tie.Need-returns-2
-returns-2 c = rw (eq-eqb _ 10 (c .if1 .left))
+returns-2 c = rw (eq-eqb _ header-words (c .if1 .left))
 
 pub due-spec : {M : Type 1} → statement M
 due-spec = tie.close (tie.spec returns returns-2)

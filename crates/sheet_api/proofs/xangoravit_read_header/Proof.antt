@@ -1,4 +1,4 @@
--- `sheet_api::xangoravit_read_header` meets its contract. Assumes nothing.
+-- `sheet_api::xangoravit_read_header` meets its contract: one return where the header has the wrong length, and one where it is right. Assumes nothing.
 use Rattle.sheet_api.proofs.Calls.{header-not-due, header-due}
 use borrow.Author.Needs.{needs}
 use Rattle.sheet_api.proofs.xangoravit_read_header.Statement.{statement}

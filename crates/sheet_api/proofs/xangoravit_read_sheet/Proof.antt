@@ -1,9 +1,9 @@
--- `sheet_api::xangoravit_read_sheet` meets its contract. Assumes nothing.
+-- `sheet_api::xangoravit_read_sheet` meets its contract: one return where header or place has the wrong length, and one where both are right. Assumes nothing.
 use mathlib.Core.Path.{_≡_, sym, _∙_}
 use mathlib.Core.Bool.{true}
 use borrow.Author.Tests.{not-true, not-false}
 use lib.ListN.{length}
-use Rattle.sheet_api.proofs.Calls.{Due, ten-words, sheet-not-due, sheet-due}
+use Rattle.sheet_api.proofs.Calls.{Due, due-header, sheet-not-due, sheet-due}
 use Rattle.sheet_api.proofs.xangoravit_read_sheet.Statement.{statement}
 use Rattle.sheet_api.proofs.xangoravit_read_sheet.Tie as tie
 
@@ -37,7 +37,7 @@ write-header-requires : tie.Need-write-header-requires
 write-header-requires c κs =
     let e = c .before .before .before .before .before .before .before .before in
     let g = from (e .before) .args in
-    ten-words (length (g .header .now)) (length (g .place .now)) (is-due e)
+    due-header (length (g .header .now)) (length (g .place .now)) (is-due e)
 
 write-place-requires : tie.Need-write-place-requires
 write-place-requires c κs = tt

@@ -1,4 +1,5 @@
--- `sheet_fit::bits_from` meets its contract. Assumes nothing.
+-- `sheet_fit::bits_from` meets its contract. The invariant: the bits of the first j weights are written, and the other words are as they were.
+-- The measure: p - j. Assumes nothing.
 use mathlib.Core.Path.{_≡_, refl, sym, _∙_}
 use mathlib.Core.List.{List}
 use Prim.Native.Nat.{ℕ, _+_, _-_, _≤_}
@@ -6,7 +7,8 @@ use native.Mathlib.Nat.{zero-add}
 use native.Mathlib.Omega.{arith}
 use lib.ListN.{length, set, length-set}
 use lib.Ieee.{binary64, toBits}
-use Rattle.arrays.specs.Part.{put, tab, length-tab, put-all, put-tab-none, put-tab-more}
+use Rattle.arrays.specs.Part.{put, tab}
+use Rattle.arrays.proofs.Part.{length-tab, put-all, put-tab-none, put-tab-more}
 use Rattle.arrays.specs.Sums.{_!_}
 use Rattle.sheet_fit.specs.SheetFit.{bitsOf}
 use Rattle.sheet_fit.proofs.bits_from.Statement.{statement}

@@ -1,4 +1,4 @@
--- `sheet_fit::fit_sheet` meets its contract. Assumes nothing.
+-- `sheet_fit::fit_sheet` meets its contract: each return is that of the first test that fails, or the text of the fit. Assumes nothing.
 use native.Mathlib.Omega.{arith}
 use borrow.Author.Needs.{needs}
 use Rattle.sheet_fit.proofs.Returns.{same-text, header-is, many-bytes, header-refused, header-sized}

@@ -1,4 +1,4 @@
--- `sheet_fit::fitted` meets its contract. Assumes nothing.
+-- `sheet_fit::fitted` meets its contract: the local arrays are all +0, as the text's definition has them. Assumes nothing.
 use native.Mathlib.Omega.{arith}
 use borrow.Author.Needs.{needs}
 use Rattle.sheet_fit.proofs.Returns.{same-text, fit-text, all-zeros, zeros}

@@ -1,4 +1,4 @@
--- `sheet_fit::headed` meets its contract. Assumes nothing.
+-- `sheet_fit::headed` meets its contract: past the two size tests the parts of the fixed arrays are long enough. Assumes nothing.
 use Prim.Native.Nat.{_*_}
 use native.Mathlib.Omega.{arith}
 use Rattle.sheet_fit.proofs.Returns.{same-text, area, zeros, many-rows, many-features, sized}

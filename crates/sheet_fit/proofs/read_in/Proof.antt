@@ -1,4 +1,4 @@
--- `sheet_fit::read_in` meets its contract. Assumes nothing.
+-- `sheet_fit::read_in` meets its contract: a sheet that is read has the p of its header, so at most 16. Assumes nothing.
 use native.Mathlib.Omega.{arith}
 use borrow.Author.Needs.{needs}
 use Rattle.sheet_fit.proofs.Returns.{same-text, sheet-is, read-refused, read-fitted}

@@ -1,16 +1,16 @@
--- `stages::opening_step` meets its contract. Assumes nothing.
+-- `stages::opening_step` meets its contract: one return for each answer of `open`. Assumes nothing.
 use borrow.Author.Needs.{needs}
 use Rattle.pause.specs.Parts.{round+}
-use Rattle.stages.specs.Stage.{countsOf}
-use Rattle.stages.proofs.Moves.{opening-ready, opening-done, opening-tiny}
+use Rattle.records.specs.Record.{countsOf}
+use Rattle.stages.proofs.Moves.{opening-ready, opening-done, opening-fails}
 use Rattle.stages.proofs.opening_step.Statement.{statement}
 use Rattle.stages.proofs.opening_step.Tie as tie
 
 abbrev from : tie.After-open → tie.Start
 from n = n .before .before .before .before .before .before .before .before
 
-add-t16 : tie.Need-add-t16
-add-t16 c = search needs
+add-t17 : tie.Need-add-t17
+add-t17 c = search needs
 
 open-requires : tie.Need-open-requires
 open-requires c κs = c .before .before .before .before .before .before .before .pre .0
@@ -21,8 +21,8 @@ enum-known-w c = search needs
 enum-told : tie.Need-enum-told
 enum-told c = search needs
 
-enum-told-2 : tie.Need-enum-told-2
-enum-told-2 c = search needs
+enum-known-f : tie.Need-enum-known-f
+enum-known-f c = search needs
 
 same-length : tie.Need-same-length
 same-length c = search needs
@@ -52,20 +52,20 @@ same-length-3 c = search needs
 returns-3 : tie.Need-returns-3
 unfolding round+
 returns-3 c =
-    let n = c .before .before .before .before in
+    let n = c .before .before .before .before .before in
     let s = from n .args in
-    opening-tiny (s .sh) (s .tm) (s .tol) _ (s .limit) (s .r) (countsOf (s .c)) (s .a) _ (n .«open» .ensures)
-    (c .enum-told2 .given .1)
+    opening-fails (s .sh) (s .tm) (s .tol) _ (s .limit) (s .r) (countsOf (s .c)) (s .a) _ (n .«open» .ensures)
+    (c .before .f .given .1)
 
 pub opening-step-spec : {M : Type 1} → statement M
 opening-step-spec =
     tie.close
     (tie.spec
-    add-t16
+    add-t17
     open-requires
     enum-known-w
     enum-told
-    enum-told-2
+    enum-known-f
     same-length
     returns
     same-length-2

@@ -1,6 +1,7 @@
 -- `stages::search_begins` meets its contract. Assumes nothing.
 use mathlib.Core.Path.{ap}
-use Rattle.stages.specs.Stage.{countsOf, searchFrom}
+use Rattle.records.specs.Record.{countsOf}
+use Rattle.stages.specs.Stage.{searchFrom}
 use Rattle.stages.proofs.search_begins.Statement.{statement}
 use Rattle.stages.proofs.search_begins.Tie as tie
 

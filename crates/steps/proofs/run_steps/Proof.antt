@@ -1,4 +1,5 @@
--- `steps::run_steps` meets its contract. The steps left from the record at the head of the loop are the budget's from the first. Assumes nothing.
+-- `steps::run_steps` meets its contract. The invariant: `left` steps from `cur` give what the budget gives from the first record, and a step may take `cur`.
+-- The measure: left. Assumes nothing.
 use native.Mathlib.Omega.{arith}
 use borrow.Author.Needs.{needs}
 use mathlib.Core.Path.{refl}

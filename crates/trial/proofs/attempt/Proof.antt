@@ -1,4 +1,4 @@
--- `trial::attempt` meets its contract. Assumes nothing.
+-- `trial::attempt` meets its contract: one return where the new point is inside, by `decide`, and one where the step is halved. Assumes nothing.
 use borrow.Author.Needs.{needs}
 use Rattle.design.proofs.Lengths.{held-on}
 use Rattle.trial.proofs.Returns.{inside, outside}

@@ -1,4 +1,4 @@
--- `trial::decide` meets its contract. Assumes nothing.
+-- `trial::decide` meets its contract: one return for each side of the decrease test. Assumes nothing.
 use borrow.Author.Needs.{needs}
 use Rattle.layout.specs.Slots.{vars}
 use Rattle.lasso_optimizer.specs.Trial.{newzStore}

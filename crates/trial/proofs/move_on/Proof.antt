@@ -1,6 +1,7 @@
 -- `trial::move_on` meets its contract. Assumes nothing.
 use borrow.Author.Needs.{needs}
-use Rattle.layout.specs.Slots.{start, words}
+use Rattle.layout.specs.Slots.{words}
+use Rattle.layout.proofs.Slots.{start}
 use Rattle.trial.proofs.Stores.{moved}
 use Rattle.trial.proofs.move_on.Statement.{statement}
 use Rattle.trial.proofs.move_on.Tie as tie

@@ -1,7 +1,8 @@
 -- `trial::residuals` meets its contract. Assumes nothing.
 use borrow.Author.Needs.{needs}
 use native.Mathlib.Omega.{arith}
-use Rattle.layout.specs.Slots.{start, words}
+use Rattle.layout.specs.Slots.{words}
+use Rattle.layout.proofs.Slots.{start}
 use Rattle.trial.proofs.Stores.{renewed}
 use Rattle.trial.proofs.residuals.Statement.{statement}
 use Rattle.trial.proofs.residuals.Tie as tie

@@ -1,6 +1,7 @@
 -- `trial::take` meets its contract. Assumes nothing.
 use borrow.Author.Needs.{needs}
-use Rattle.layout.specs.Slots.{start, words}
+use Rattle.layout.specs.Slots.{words}
+use Rattle.layout.proofs.Slots.{start}
 use Rattle.trial.proofs.Stores.{taken}
 use Rattle.trial.proofs.take.Statement.{statement}
 use Rattle.trial.proofs.take.Tie as tie

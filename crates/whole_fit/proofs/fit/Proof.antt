@@ -1,8 +1,8 @@
--- `whole_fit::fit` meets its contract. Assumes nothing.
+-- `whole_fit::fit` meets its contract: 5,100·M steps end any fit, so `settled` may be called. Assumes nothing.
 use native.Mathlib.Omega.{arith}
 use mathlib.Core.Path.{_≡_, _∙_}
 use lib.ListN.{length}
-use Rattle.whole_fit.proofs.Returns.{start-refuses, few, runs-whole}
+use Rattle.whole_fit.proofs.Returns.{start-refuses, few, one-ended, one-settles}
 use Rattle.whole_fit.proofs.fit.Statement.{statement}
 use Rattle.whole_fit.proofs.fit.Tie as tie
 
@@ -34,6 +34,14 @@ mul-resume c =
 resume-requires : tie.Need-resume-requires
 resume-requires c κs = tt
 
+settled-requires : tie.Need-settled-requires
+settled-requires c κs =
+    let u = c .before .before .before .before in
+    let t = begun (u .before) in
+    let g = from t .args in
+    one-ended (g .n) (g .p) (g .x .now) (g .y .now) (g .st) (g .s .now) (g .w .now) (t .start-whole .result) (t .start-whole .ensures)
+    (ready (u .before) .rec .given .1) (u .resume .result) (u .resume .ensures)
+
 enum-known-r : tie.Need-enum-known-r
 enum-known-r c = c .match .keys2
 
@@ -41,18 +49,19 @@ refused-requires : tie.Need-refused-requires
 refused-requires c κs = tt
 
 same-length : tie.Need-same-length
-same-length c = c .before .before .before .before .resume .kept .1 .1 .1 .1 .1 .1 .0 ∙ scratch (begun (c .before .before .before .before .before))
+same-length c =
+    c .before .before .before .before .before .resume .kept .1 .1 .1 .1 .1 .1 .0 ∙ scratch (begun (c .before .before .before .before .before .before))
 
 same-length-2 : tie.Need-same-length-2
-same-length-2 c = c .before .before .before .before .resume .kept .1 .1 .1 .1 .1 .1 .1 .0
+same-length-2 c = c .before .before .before .before .before .resume .kept .1 .1 .1 .1 .1 .1 .1 .0
 
 returns : tie.Need-returns
 returns c =
-    let u = c .before .before .before .before in
+    let u = c .before .before .before .before .before in
     let t = begun (u .before) in
     let g = from t .args in
-    runs-whole (g .n) (g .p) (g .x .now) (g .y .now) (g .st) (g .s .now) (g .w .now) (t .start-whole .result) (t .start-whole .ensures) (ready (u .before) .rec .given .1)
-    (u .resume .result) (u .resume .ensures)
+    one-settles (g .n) (g .p) (g .x .now) (g .y .now) (g .st) (g .s .now) (g .w .now) (t .start-whole .result) (t .start-whole .ensures)
+    (ready (u .before) .rec .given .1) (u .resume .result) (u .resume .ensures) (c .settled .ensures)
 
 same-length-3 : tie.Need-same-length-3
 same-length-3 c = scratch (c .before .before .before .before .before .before)
@@ -72,6 +81,7 @@ fit-spec =
     enum-known-rec
     mul-resume
     resume-requires
+    settled-requires
     enum-known-r
     refused-requires
     same-length

@@ -1,4 +1,4 @@
--- `whole_fit::start_whole` meets its contract. Assumes nothing.
+-- `whole_fit::start_whole` meets its contract: past the checks it is `start`. Assumes nothing.
 use Rattle.whole_fit.proofs.Returns.{passes, refuses}
 use Rattle.whole_fit.proofs.start_whole.Statement.{statement}
 use Rattle.whole_fit.proofs.start_whole.Tie as tie

@@ -1,4 +1,5 @@
--- `arrays::scan::first_infinite` meets its contract: at its head what is left to scan gives the whole scan's answer. Assumes nothing.
+-- `arrays::scan::first_infinite` meets its contract. The invariant: what is left to scan, from i on, gives the whole scan's answer.
+-- The measure: the length less i. Assumes nothing.
 use mathlib.Core.Path.{_≡_, refl, sym, _∙_}
 use Prim.Native.Nat.{_-_, _≤_}
 use native.Mathlib.Omega.{arith}

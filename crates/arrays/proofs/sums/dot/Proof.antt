@@ -1,10 +1,11 @@
--- `arrays::sums::dot` meets its contract. Assumes nothing.
+-- `arrays::sums::dot` meets its contract. The invariant: t is the sum of the first i products, from -0. The measure: n - i. Assumes nothing.
 use Prim.Native.Nat.{_≤_, _-_}
 use mathlib.Core.Path.{_≡_, sym}
 use native.Mathlib.Omega.{arith}
 use lib.Ieee.{neg, ofBits}
 use Rattle.arrays.specs.Part.{part}
-use Rattle.arrays.specs.Sums.{_!_, fold-none, products, minus0, dotOf}
+use Rattle.arrays.specs.Sums.{_!_, products, minus0, dotOf}
+use Rattle.arrays.proofs.Folds.{fold-none}
 use Rattle.arrays.proofs.Turns.{products-more}
 use Rattle.arrays.proofs.sums.dot.Statement.{statement}
 use Rattle.arrays.proofs.sums.dot.Tie as tie

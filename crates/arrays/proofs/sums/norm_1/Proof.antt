@@ -1,10 +1,12 @@
--- `arrays::sums::norm_1` meets its contract. Assumes nothing.
+-- `arrays::sums::norm_1` meets its contract. The invariant: t is the sum of the first i magnitudes, from +0. The measure: n - i. Assumes nothing.
 use Prim.Native.Nat.{_≤_, _-_}
 use mathlib.Core.Path.{_≡_, sym}
 use native.Mathlib.Omega.{arith}
 use lib.Ieee.{nan}
-use Rattle.arrays.specs.Part.{part, getD-part}
-use Rattle.arrays.specs.Sums.{_!_, fold-none, fold-turn, sumTo, plus0, norm1Of}
+use Rattle.arrays.specs.Part.{part}
+use Rattle.arrays.proofs.Part.{getD-part}
+use Rattle.arrays.specs.Sums.{_!_, sumTo, plus0, norm1Of}
+use Rattle.arrays.proofs.Folds.{fold-none, fold-turn}
 use Rattle.numbers.specs.Ops.{magnitudeOf}
 use Rattle.arrays.proofs.sums.norm_1.Statement.{statement}
 use Rattle.arrays.proofs.sums.norm_1.Tie as tie

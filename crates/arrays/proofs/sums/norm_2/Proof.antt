@@ -7,12 +7,12 @@ use Rattle.arrays.proofs.sums.norm_2.Tie as tie
 product-requires : tie.Need-product-requires
 product-requires c κs = omega arith
 
-root-requires : tie.Need-root-requires
-root-requires c κs = tt
+power-requires : tie.Need-power-requires
+power-requires c κs = tt
 
 returns : tie.Need-returns
 unfolding productOf norm2Of
-returns c = rw (c .root .ensures, c .before .product .ensures)
+returns c = rw (c .power .ensures, c .before .product .ensures)
 
 pub norm-2-spec : {M : Type 1} → statement M
-norm-2-spec = tie.close (tie.spec product-requires root-requires returns)
+norm-2-spec = tie.close (tie.spec product-requires power-requires returns)

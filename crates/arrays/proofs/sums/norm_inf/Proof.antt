@@ -1,11 +1,13 @@
--- `arrays::sums::norm_inf` meets its contract. Assumes nothing.
+-- `arrays::sums::norm_inf` meets its contract. The invariant: t is the largest of the first i magnitudes, from -infinity. The measure: n - i. Assumes nothing.
 use Prim.Native.Nat.{_≤_, _-_}
 use mathlib.Core.Path.{_≡_, sym, _∙_}
 use mathlib.Core.Bool.{true}
 use native.Mathlib.Omega.{arith}
 use lib.Ieee.{nan, inf, div, neg, ofBits}
-use Rattle.arrays.specs.Part.{part, getD-part}
-use Rattle.arrays.specs.Sums.{_!_, fold-none, fold-turn, foldTo, normInfOf}
+use Rattle.arrays.specs.Part.{part}
+use Rattle.arrays.proofs.Part.{getD-part}
+use Rattle.arrays.specs.Sums.{_!_, foldTo, normInfOf}
+use Rattle.arrays.proofs.Folds.{fold-none, fold-turn}
 use Rattle.numbers.specs.Ops.{magnitudeOf}
 use Rattle.numbers.specs.Order.{maximumOf}
 use Rattle.arrays.proofs.sums.norm_inf.Statement.{statement}

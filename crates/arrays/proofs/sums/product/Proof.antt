@@ -1,9 +1,10 @@
--- `arrays::sums::product` meets its contract. Assumes nothing.
+-- `arrays::sums::product` meets its contract. The invariant: t is the sum of the first i products, from +0. The measure: n - i. Assumes nothing.
 use Prim.Native.Nat.{_≤_, _-_}
 use mathlib.Core.Path.{_≡_, sym}
 use native.Mathlib.Omega.{arith}
 use Rattle.arrays.specs.Part.{part}
-use Rattle.arrays.specs.Sums.{_!_, fold-none, products, plus0, productOf}
+use Rattle.arrays.specs.Sums.{_!_, products, plus0, productOf}
+use Rattle.arrays.proofs.Folds.{fold-none}
 use Rattle.arrays.proofs.Turns.{products-more}
 use Rattle.arrays.proofs.sums.product.Statement.{statement}
 use Rattle.arrays.proofs.sums.product.Tie as tie

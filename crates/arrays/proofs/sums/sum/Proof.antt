@@ -1,10 +1,12 @@
--- `arrays::sums::sum` meets its contract. Assumes nothing.
+-- `arrays::sums::sum` meets its contract. The invariant: t is the sum of the first i elements, from -0. The measure: n - i. Assumes nothing.
 use Prim.Native.Nat.{_≤_, _-_}
 use mathlib.Core.Path.{_≡_, sym}
 use native.Mathlib.Omega.{arith}
 use lib.Ieee.{nan, neg, ofBits}
-use Rattle.arrays.specs.Part.{part, getD-part}
-use Rattle.arrays.specs.Sums.{_!_, fold-none, fold-turn, sumTo, minus0, sumOf}
+use Rattle.arrays.specs.Part.{part}
+use Rattle.arrays.proofs.Part.{getD-part}
+use Rattle.arrays.specs.Sums.{_!_, sumTo, minus0, sumOf}
+use Rattle.arrays.proofs.Folds.{fold-none, fold-turn}
 use Rattle.arrays.proofs.sums.sum.Statement.{statement}
 use Rattle.arrays.proofs.sums.sum.Tie as tie
 

@@ -1,4 +1,5 @@
--- `arrays::vectors::copy` meets its contract. Assumes nothing.
+-- `arrays::vectors::copy` meets its contract. The invariant: the first i elements of the part at a, as they were, are copied, and all else is as it was.
+-- The measure: n - i. Assumes nothing.
 use Prim.Native.Nat.{_-_}
 use native.Mathlib.Omega.{arith}
 use lib.Ieee.{Float}

@@ -1,9 +1,11 @@
--- `arrays::vectors::copy_from` meets its contract. Assumes nothing.
+-- `arrays::vectors::copy_from` meets its contract. The invariant: the first i elements of t's part are copied, and all else is as it was.
+-- The measure: n - i. Assumes nothing.
 use Prim.Native.Nat.{_-_}
 use mathlib.Core.Path.{sym}
 use native.Mathlib.Omega.{arith}
 use lib.Ieee.{nan}
-use Rattle.arrays.specs.Part.{part, getD-part}
+use Rattle.arrays.specs.Part.{part}
+use Rattle.arrays.proofs.Part.{getD-part}
 use Rattle.arrays.specs.Sums.{_!_}
 use Rattle.arrays.proofs.Turns.{Made, made-none, made-more, made-copy}
 use Rattle.arrays.proofs.vectors.copy_from.Statement.{statement}

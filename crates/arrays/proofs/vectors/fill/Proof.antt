@@ -1,4 +1,5 @@
--- `arrays::vectors::fill` meets its contract. Assumes nothing.
+-- `arrays::vectors::fill` meets its contract. The invariant: the first i elements from `out` are x, and all else is as it was.
+-- The measure: n - i. Assumes nothing.
 use Prim.Native.Nat.{_-_}
 use mathlib.Core.Path.{refl}
 use native.Mathlib.Omega.{arith}

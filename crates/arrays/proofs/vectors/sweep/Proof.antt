@@ -1,4 +1,5 @@
--- `arrays::vectors::sweep` meets its contract: each element is written as it was read. Assumes nothing.
+-- `arrays::vectors::sweep` meets its contract. The invariant: the slice is as it was, since each element is written as it was read.
+-- The measure: n - i. Assumes nothing.
 use Prim.Native.Nat.{_≤_, _-_}
 use mathlib.Core.Path.{_≡_, refl, _∙_}
 use native.Mathlib.Omega.{arith}

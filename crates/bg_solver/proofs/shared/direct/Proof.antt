@@ -7,9 +7,11 @@ use native.Mathlib.Omega.{arith}
 use lib.ListN.{length}
 use lib.Ieee.{Float}
 use Rattle.numbers.specs.Ops.{_⊕_, _⊗_, _⊘_}
-use Rattle.arrays.specs.Part.{part, put, part-put-above, part-put-below}
+use Rattle.arrays.specs.Part.{part, put}
+use Rattle.arrays.proofs.Part.{part-put-above, part-put-below}
 use Rattle.arrays.specs.Sums.{productOf}
-use Rattle.arrays.specs.Vectors.{zipOf, length-zip}
+use Rattle.arrays.specs.Vectors.{zipOf}
+use Rattle.arrays.proofs.Lengths.{length-zip}
 use Rattle.bg_solver.specs.declared.shared.Seven.{Seven}
 use Rattle.bg_solver.specs.Shared.{Seated, directMem}
 use Rattle.bg_solver.proofs.shared.direct.Statement.{statement}

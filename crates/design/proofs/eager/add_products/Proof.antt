@@ -1,14 +1,16 @@
--- `design::eager::add_products` meets its contract. Assumes nothing.
+-- `design::eager::add_products` meets its contract. The invariant: the first r rows of the Gram have their products added, and all else is as it was.
+-- The measure: p - r. Assumes nothing.
 use Prim.Native.Nat.{ℕ, _+_, _-_, _*_, _<_}
 use mathlib.Core.Path.{_≡_, ap, _∙_}
 use mathlib.Core.List.{List}
 use native.Mathlib.Omega.{arith}
 use lib.Ieee.{Float, nan}
 use Rattle.numbers.specs.Ops.{_⊕_, _⊗_}
-use Rattle.arrays.specs.Part.{part, put, tab-ext, getD-part}
+use Rattle.arrays.specs.Part.{part, put}
+use Rattle.arrays.proofs.Part.{tab-ext, getD-part}
 use Rattle.arrays.specs.Sums.{_!_}
 use Rattle.arrays.specs.Vectors.{zipOf}
-use Rattle.matrices.specs.Products.{row-room}
+use Rattle.matrices.proofs.Lengths.{row-room}
 use Rattle.design.specs.Rows.{addedAt, Added}
 use Rattle.design.proofs.Grids.{Written, written-none, written-more, written-all, above}
 use Rattle.design.proofs.eager.add_products.Statement.{statement}

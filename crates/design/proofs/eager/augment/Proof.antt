@@ -9,12 +9,15 @@ use native.Mathlib.Omega.{arith}
 use borrow.Author.Tests.{lt-ltb, le-ltb, eq-eqb, ne-eqb}
 use lib.Dec.{eqb}
 use lib.Ieee.{Float}
-use Rattle.arrays.specs.Part.{put-append, part, put}
-use Rattle.matrices.specs.Grid.{grid, grid-ext, grid-append, length-grid}
+use Rattle.arrays.specs.Part.{part, put}
+use Rattle.arrays.proofs.Part.{put-append}
+use Rattle.matrices.specs.Grid.{grid}
+use Rattle.matrices.proofs.Grid.{grid-ext, grid-append, length-grid}
 use Rattle.settings.specs.declared.Terms.{Terms}
 use Rattle.layout.specs.declared.Sizes.{Sizes}
 use Rattle.layout.specs.declared.Places.{Places}
-use Rattle.layout.specs.Slots.{Slot.CENTRE, Slot.SCALE, Slot.DESIGN, Has, Room, vars, rest, start, then, words}
+use Rattle.layout.specs.Slots.{Slot.CENTRE, Slot.SCALE, Slot.DESIGN, Has, Room, vars, rest, words}
+use Rattle.layout.proofs.Slots.{start, then}
 use Rattle.design.specs.Eager.{designAt, designOf, designStore}
 use Rattle.design.specs.Rows.{rowOf, diagonalAt}
 use Rattle.design.proofs.eager.augment.Statement.{statement}

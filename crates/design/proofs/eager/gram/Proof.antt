@@ -1,4 +1,5 @@
--- `design::eager::gram` meets its contract: over the slice as `fill` left it, the sums of the products of the first i rows are written. Assumes nothing.
+-- `design::eager::gram` meets its contract. The invariant: row i begins at `at`, and over what `fill` left the sums of the first i rows are written.
+-- The measure: rows - i. Assumes nothing.
 use Prim.Native.Nat.{ℕ, zero, suc, _+_, _-_, _*_, _≤_, _<_}
 use mathlib.Core.Path.{_≡_, refl, sym, ap, _∙_}
 use mathlib.Core.List.{List, [], _∷_, _++_, append-nil, append-assoc}
@@ -6,14 +7,19 @@ use native.Mathlib.Nat.{add-zero, add-suc, zero-mul, suc-mul}
 use native.Mathlib.Omega.{arith}
 use lib.ListN.{length}
 use lib.Ieee.{Float, nan}
-use Rattle.arrays.specs.Part.{part, put, tab, length-put, getD-part, getD-put-below, part-put-same, part-put-below, put-put-same}
-use Rattle.arrays.specs.Sums.{_!_, products, plus0, fold-none, fold-turn}
-use Rattle.arrays.specs.Vectors.{fillOf, length-fill}
-use Rattle.matrices.specs.Products.{row-room, next-row}
-use Rattle.matrices.specs.Grid.{grid, grid-ext, getD-grid, length-grid}
+use Rattle.arrays.specs.Part.{part, put, tab}
+use Rattle.arrays.proofs.Part.{length-put, getD-part, getD-put-below, part-put-same, part-put-below, put-put-same}
+use Rattle.arrays.specs.Sums.{_!_, products, plus0}
+use Rattle.arrays.proofs.Folds.{fold-none, fold-turn}
+use Rattle.arrays.specs.Vectors.{fillOf}
+use Rattle.arrays.proofs.Lengths.{length-fill}
+use Rattle.matrices.proofs.Lengths.{row-room, next-row}
+use Rattle.matrices.specs.Grid.{grid}
+use Rattle.matrices.proofs.Grid.{grid-ext, getD-grid, length-grid}
 use Rattle.layout.specs.declared.Sizes.{Sizes}
 use Rattle.layout.specs.declared.Places.{Places}
-use Rattle.layout.specs.Slots.{Slot.GRAM, Slot.DESIGN, Has, Room, vars, rest, start, then, words}
+use Rattle.layout.specs.Slots.{Slot.GRAM, Slot.DESIGN, Has, Room, vars, rest, words}
+use Rattle.layout.proofs.Slots.{start, then}
 use Rattle.design.specs.Eager.{gramOf, gramStore}
 use Rattle.design.specs.Rows.{addedAt}
 use Rattle.design.proofs.eager.gram.Statement.{statement}

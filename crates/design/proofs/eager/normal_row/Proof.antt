@@ -1,4 +1,5 @@
--- `design::eager::normal_row` meets its contract. Assumes nothing.
+-- `design::eager::normal_row` meets its contract. The invariant: the first j entries, normalised and times gamma, are written, and all else is as it was.
+-- The measure: p - j. Assumes nothing.
 use Prim.Native.Nat.{_-_}
 use mathlib.Core.Bool.{true}
 use native.Mathlib.Omega.{arith}

@@ -1,4 +1,5 @@
--- `design::eager::padding` meets its contract. Assumes nothing.
+-- `design::eager::padding` meets its contract. The invariant: the first r rows of the padding are written, and all else is as it was.
+-- The measure: p - r. Assumes nothing.
 use Prim.Native.Nat.{ℕ, zero, suc, _+_, _-_, _*_, _<_}
 use mathlib.Core.Path.{_≡_, sym, ap, _∙_}
 use mathlib.Core.List.{List, [], _∷_}
@@ -9,16 +10,18 @@ use borrow.Author.Tests.{eq-eqb, ne-eqb}
 use lib.ListN.{length, getD, set, length-set}
 use lib.Seq.{set-set, getD-set-same, getD-set-other, ext-getD}
 use lib.Ieee.{Float, nan}
-use Rattle.arrays.specs.Part.{put, tab, length-tab, getD-tab, put-comm}
+use Rattle.arrays.specs.Part.{put, tab}
+use Rattle.arrays.proofs.Part.{length-tab, getD-tab, put-comm}
 use Rattle.arrays.specs.Sums.{plus0}
-use Rattle.arrays.specs.Vectors.{fillOf, length-fill}
-use Rattle.matrices.specs.Products.{row-room}
+use Rattle.arrays.specs.Vectors.{fillOf}
+use Rattle.arrays.proofs.Lengths.{length-fill}
+use Rattle.matrices.proofs.Lengths.{row-room}
 use Rattle.design.specs.Rows.{diagonalAt}
 use Rattle.design.proofs.Grids.{Written, written-none, written-more, written-all}
 use Rattle.design.proofs.eager.padding.Statement.{statement}
 use Rattle.design.proofs.eager.padding.Tie as tie
 
--- a store to what was written is a write of what was stored to
+-- a list written, and then one of its elements set: the same as the list with that element set, written
 put-set : (s : List Float) (a : ℕ) (xs : List Float) (r : ℕ) (x : Float) → r < length xs → set (put s a xs) (a + r) x ≡ put s a (set xs r x)
 unfolding put
 put-set s a [] r x h = absurd (not-suc-le-zero h)

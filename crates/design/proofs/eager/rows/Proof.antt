@@ -1,8 +1,9 @@
--- `design::eager::rows` meets its contract. Assumes nothing.
+-- `design::eager::rows` meets its contract. The invariant: the first i rows of the design are written, and all else is as it was.
+-- The measure: n - i. Assumes nothing.
 use Prim.Native.Nat.{_-_, _*_}
 use native.Mathlib.Omega.{arith}
 use Rattle.arrays.specs.Part.{part}
-use Rattle.matrices.specs.Products.{row-room}
+use Rattle.matrices.proofs.Lengths.{row-room}
 use Rattle.design.specs.Rows.{rowOf}
 use Rattle.design.proofs.Grids.{Written, written-none, written-more, written-all, part-below}
 use Rattle.design.proofs.eager.rows.Statement.{statement}

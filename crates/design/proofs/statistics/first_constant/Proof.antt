@@ -1,4 +1,5 @@
--- `design::statistics::first_constant` meets its contract: at its head what is left to test gives the whole answer. Assumes nothing.
+-- `design::statistics::first_constant` meets its contract. The invariant: what is left to test, from column j on, gives the whole answer.
+-- The measure: p - j. Assumes nothing.
 use mathlib.Core.Path.{_≡_, refl, sym, ap, _∙_}
 use mathlib.Core.Bool.{true, false}
 use mathlib.Core.List.{List}
@@ -6,7 +7,8 @@ use Prim.Native.Nat.{ℕ, suc, _+_, _-_, _≤_, _<_}
 use native.Mathlib.Omega.{arith}
 use lib.ListN.{length}
 use lib.Ieee.{Float, nan}
-use Rattle.arrays.specs.Part.{part-put-same, put, tab, getD-tab, getD-part, length-tab, length-put}
+use Rattle.arrays.specs.Part.{put, tab}
+use Rattle.arrays.proofs.Part.{part-put-same, getD-tab, getD-part, length-tab, length-put}
 use Rattle.arrays.specs.Sums.{_!_}
 use Rattle.arrays.specs.declared.scan.Found.the-variants.{Clean, At}
 use Rattle.design.specs.Statistics.{isConstant, constantFrom, constantOf}

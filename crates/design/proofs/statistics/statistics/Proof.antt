@@ -6,7 +6,8 @@ use mathlib.Core.List.{List}
 use native.Mathlib.Omega.{arith}
 use lib.Ieee.{Float}
 use Rattle.arrays.specs.Part.{put}
-use Rattle.layout.specs.Slots.{Slot.CENTRE, Slot.SCALE, Has, Room, vars, rest, start, then, words}
+use Rattle.layout.specs.Slots.{Slot.CENTRE, Slot.SCALE, Has, Room, vars, rest, words}
+use Rattle.layout.proofs.Slots.{start, then}
 use Rattle.layout.specs.declared.Sizes.{Sizes}
 use Rattle.layout.specs.declared.Places.{Places}
 use Rattle.design.specs.Statistics.{centresOf, scalesOf, statisticsStore}

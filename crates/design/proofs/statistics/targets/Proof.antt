@@ -6,10 +6,13 @@ use native.Mathlib.Omega.{arith}
 use lib.ListN.{length, length-append}
 use lib.Ieee.{Float}
 use Rattle.numbers.specs.Ops.{_⊖_}
-use Rattle.arrays.specs.Part.{put-append, part, put, length-part, part-put-same, put-put-same}
+use Rattle.arrays.specs.Part.{part, put}
+use Rattle.arrays.proofs.Part.{put-append, length-part, part-put-same, put-put-same}
 use Rattle.arrays.specs.Sums.{plus0, meanOf}
-use Rattle.arrays.specs.Vectors.{fillOf, mapOf, length-fill, length-map}
-use Rattle.layout.specs.Slots.{Slot.Y, Has, vars, rest, start, then, words}
+use Rattle.arrays.specs.Vectors.{fillOf, mapOf}
+use Rattle.arrays.proofs.Lengths.{length-fill, length-map}
+use Rattle.layout.specs.Slots.{Slot.Y, Has, vars, rest, words}
+use Rattle.layout.proofs.Slots.{start, then}
 use Rattle.layout.specs.declared.Sizes.{Sizes}
 use Rattle.layout.specs.declared.Places.{Places}
 use Rattle.design.specs.Statistics.{centredOf, targetsStore, Targets}

@@ -1,11 +1,14 @@
--- `matrices::products::column_product` meets its contract. Assumes nothing.
+-- `matrices::products::column_product` meets its contract. The invariant: t is the column's sum over the first i rows, and its next element stands at `at`.
+-- The measure: rows - i. Assumes nothing.
 use Prim.Native.Nat.{_+_, _-_, _*_, _≤_}
 use mathlib.Core.Path.{_≡_, sym}
 use native.Mathlib.Omega.{arith}
 use lib.Ieee.{nan}
-use Rattle.matrices.specs.Products.{row-room, next-row, columnProduct}
-use Rattle.arrays.specs.Sums.{fold-none, fold-turn}
-use Rattle.arrays.specs.Part.{part, getD-part}
+use Rattle.matrices.specs.Products.{columnProduct}
+use Rattle.matrices.proofs.Lengths.{row-room, next-row}
+use Rattle.arrays.proofs.Folds.{fold-none, fold-turn}
+use Rattle.arrays.specs.Part.{part}
+use Rattle.arrays.proofs.Part.{getD-part}
 use Rattle.matrices.proofs.products.column_product.Statement.{statement}
 use Rattle.matrices.proofs.products.column_product.Tie as tie
 

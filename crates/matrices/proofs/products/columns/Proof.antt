@@ -1,4 +1,5 @@
--- `matrices::products::columns` meets its contract: over the slice as `fill` left it, the sums of the first i rows are written. Assumes nothing.
+-- `matrices::products::columns` meets its contract. The invariant: row i begins at `at`, and over what `fill` left the sums of the first i rows are written.
+-- The measure: rows - i. Assumes nothing.
 use Prim.Native.Nat.{ℕ, _+_, _-_, _*_, _≤_, _<_}
 use mathlib.Core.Path.{_≡_, refl, sym, ap, _∙_}
 use mathlib.Core.List.{List}
@@ -6,10 +7,13 @@ use native.Mathlib.Omega.{arith}
 use lib.ListN.{length}
 use lib.Ieee.{Float, binary64, nan}
 use Rattle.numbers.specs.Ops.{_⊕_, _⊗_}
-use Rattle.arrays.specs.Part.{part, put, tab, tab-ext, getD-tab, getD-part, length-tab, part-put-same}
-use Rattle.arrays.specs.Sums.{_!_, plus0, fold-none, fold-turn}
+use Rattle.arrays.specs.Part.{part, put, tab}
+use Rattle.arrays.proofs.Part.{tab-ext, getD-tab, getD-part, length-tab, part-put-same}
+use Rattle.arrays.specs.Sums.{_!_, plus0}
+use Rattle.arrays.proofs.Folds.{fold-none, fold-turn}
 use Rattle.arrays.specs.Vectors.{fillOf, zipOf}
-use Rattle.matrices.specs.Products.{columnProduct, columnsOf, row-room, next-row}
+use Rattle.matrices.specs.Products.{columnProduct, columnsOf}
+use Rattle.matrices.proofs.Lengths.{row-room, next-row}
 use Rattle.arrays.proofs.Commute.{times-comm}
 use Rattle.matrices.proofs.Rows.{row-kept}
 use Rattle.arrays.proofs.Turns.{Made, made-of, made-again, part-kept}

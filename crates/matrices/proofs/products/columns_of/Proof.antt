@@ -1,4 +1,5 @@
--- `matrices::products::columns_of` meets its contract. Assumes nothing.
+-- `matrices::products::columns_of` meets its contract. The invariant: the products of the first j columns are written, and all else is as it was.
+-- The measure: cols - j. Assumes nothing.
 use Prim.Native.Nat.{_-_}
 use native.Mathlib.Omega.{arith}
 use Rattle.arrays.specs.Part.{part}

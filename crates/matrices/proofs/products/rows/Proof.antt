@@ -1,9 +1,11 @@
--- `matrices::products::rows` meets its contract. Assumes nothing.
+-- `matrices::products::rows` meets its contract. The invariant: row i begins at `at`, and the products of the first i rows are written, all else as it was.
+-- The measure: rows - i. Assumes nothing.
 use Prim.Native.Nat.{_+_, _-_, _*_}
 use mathlib.Core.Path.{_≡_}
 use native.Mathlib.Omega.{arith}
 use Rattle.arrays.specs.Part.{part}
-use Rattle.matrices.specs.Products.{rowProduct, rowsOf, row-room, next-row}
+use Rattle.matrices.specs.Products.{rowProduct, rowsOf}
+use Rattle.matrices.proofs.Lengths.{row-room, next-row}
 use Rattle.matrices.proofs.Rows.{row-kept, row-more}
 use Rattle.arrays.proofs.Turns.{Made, made-none, made-all}
 use Rattle.matrices.proofs.products.rows.Statement.{statement}

@@ -1,10 +1,13 @@
--- `matrices::products::rows_of` meets its contract. Assumes nothing.
+-- `matrices::products::rows_of` meets its contract. The invariant: row i begins at `at`, and the products of the first i rows are written, all else as it was.
+-- The measure: rows - i. Assumes nothing.
 use Prim.Native.Nat.{_-_, _*_}
 use mathlib.Core.Path.{_≡_}
 use native.Mathlib.Omega.{arith}
 use lib.Ieee.{nan}
-use Rattle.arrays.specs.Part.{part, getD-part}
-use Rattle.matrices.specs.Products.{rowProduct, rowsOf, row-room, next-row}
+use Rattle.arrays.specs.Part.{part}
+use Rattle.arrays.proofs.Part.{getD-part}
+use Rattle.matrices.specs.Products.{rowProduct, rowsOf}
+use Rattle.matrices.proofs.Lengths.{row-room, next-row}
 use Rattle.matrices.proofs.Rows.{row-more}
 use Rattle.arrays.proofs.Turns.{Made, made-none, made-all}
 use Rattle.matrices.proofs.products.rows_of.Statement.{statement}

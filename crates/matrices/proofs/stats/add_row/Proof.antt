@@ -1,4 +1,5 @@
--- `matrices::stats::add_row` meets its contract: the first j sums of both kinds are written. Assumes nothing.
+-- `matrices::stats::add_row` meets its contract. The invariant: the first j sums of both kinds have their term added, and all else is as it was.
+-- The measure: cols - j. Assumes nothing.
 use Prim.Native.Nat.{_-_, _≤_}
 use mathlib.Core.Path.{_≡_}
 use native.Mathlib.Omega.{arith}

@@ -1,4 +1,5 @@
--- `matrices::stats::finish_deviations` meets its contract. Assumes nothing.
+-- `matrices::stats::finish_deviations` meets its contract. The invariant: the first j sums of squares have become deviations, and all else is as it was.
+-- The measure: cols - j. Assumes nothing.
 use Prim.Native.Nat.{_-_}
 use native.Mathlib.Omega.{arith}
 use Rattle.numbers.specs.Ops.{_⊖_, _⊗_, _⊘_}
@@ -37,6 +38,9 @@ mul-root c = omega arith
 slice-read-root : tie.Need-slice-read-root Inv-loop μ-loop
 slice-read-root c = omega arith
 
+power-requires : tie.Need-power-requires Inv-loop μ-loop
+power-requires c κs = tt
+
 root-requires : tie.Need-root-requires Inv-loop μ-loop
 root-requires c κs = tt
 
@@ -57,12 +61,12 @@ loop-less c = omega arith
 
 loop-again : tie.Need-loop-again Inv-loop μ-loop
 loop-again c =
-    let at = c .before .before .before .before in
+    let at = c .before .before .before .before .before in
     let g = at .before .before .args in
     let pre = at .before .before .pre in
     let v = kept (at .loop .inv) (g .out) (omega arith) (pre .clear) in
     let mu = kept (at .loop .inv) (g .means) (omega arith) (pre .clear2) in
-    made-more (at .loop .inv) (c .root .result) (omega arith) (rw (c .root .ensures, v, mu))
+    made-more (at .loop .inv) (c .root .result) (omega arith) (rw (c .root .ensures, c .before .power .ensures, v, mu))
 
 same-length : tie.Need-same-length Inv-loop μ-loop
 same-length c = omega arith
@@ -84,6 +88,7 @@ finish-deviations-spec =
     add-root
     mul-root
     slice-read-root
+    power-requires
     root-requires
     add-s
     mul-s

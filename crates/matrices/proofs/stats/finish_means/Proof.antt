@@ -1,4 +1,5 @@
--- `matrices::stats::finish_means` meets its contract. Assumes nothing.
+-- `matrices::stats::finish_means` meets its contract. The invariant: the first j sums are divided, and all else is as it was.
+-- The measure: cols - j. Assumes nothing.
 use Prim.Native.Nat.{_-_}
 use mathlib.Core.Path.{refl}
 use native.Mathlib.Omega.{arith}

@@ -1,8 +1,9 @@
--- `matrices::stats::moments` meets its contract: over the slice as `fill` left it, the sums of the first i rows are written. Assumes nothing.
+-- `matrices::stats::moments` meets its contract. The invariant: row i begins at `at`, and over what `fill` left both sums over the first i rows are written.
+-- The measure: rows - i. Assumes nothing.
 use Prim.Native.Nat.{_-_, _*_, _≤_}
 use mathlib.Core.Path.{_≡_, refl}
 use native.Mathlib.Omega.{arith}
-use Rattle.matrices.specs.Products.{row-room, next-row}
+use Rattle.matrices.proofs.Lengths.{row-room, next-row}
 use Rattle.matrices.proofs.Moments.{Pair, pair-over, pair-self, sums, squares, cleared, row-added, moments-made}
 use Rattle.matrices.proofs.stats.moments.Statement.{statement}
 use Rattle.matrices.proofs.stats.moments.Tie as tie

@@ -1,4 +1,5 @@
--- `square_root::nearest_root` meets its contract: the invariant and its arithmetic are in Recurrence. Assumes nothing.
+-- `square_root::nearest_root` meets its contract. The invariant: r and rem are root and remainder of the digits that i rounds took, and w holds the others.
+-- The measure: 53 - i. The arithmetic is in Recurrence. Assumes nothing.
 use Prim.Native.Nat.{_-_}
 use native.Mathlib.Omega.{arith}
 use mathlib.Core.Logic.{⊎-elim}

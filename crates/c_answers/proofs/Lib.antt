@@ -1,0 +1,2 @@
+mod Telling
+mod Unread

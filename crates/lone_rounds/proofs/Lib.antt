@@ -1,0 +1,4 @@
+mod Keeping
+mod Turning
+mod Looping
+mod Running
