@@ -70,7 +70,7 @@ static void show_counts(const char *before, const uint64_t *answer)
 static int fit(size_t n, size_t p, const double *x, const double *y, const uint64_t *settings, uint64_t budget)
 {
     uint64_t record[XANGORAVIT_RECORD] = {0}, answer[XANGORAVIT_ANSWER] = {0};
-    size_t words = xangoravit_scratch(n, p, settings);
+    size_t words = xangoravit_scratch_words(n, p, settings, XANGORAVIT_SETTINGS);
     double *scratch = room(words, sizeof *scratch), *weights = room(p, sizeof *weights), intercept;
 
     uint64_t number = xangoravit_start(n, p, x, n * p, y, n, settings, XANGORAVIT_SETTINGS, scratch, words,

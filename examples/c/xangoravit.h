@@ -4,11 +4,12 @@
    allocates. Slices of one call must not overlap, and each must hold the number of elements that is passed for it; the
    contents may be anything. Matrices are stored row by row.
 
-   Every call returns 0, or the number of its refusal. n not from 1 to 4,096 (of xangoravit_solve to 64) or p not from 1 to
-   64 is refused with 1 (but by xangoravit_read_header, which asks only for bytes); then a slice of the wrong length with 2,
-   whether of doubles or of words, the scratch excepted: one that is too short is 4, and a longer one will do. What is wrong
-   with a sheet's bytes, 11 to 15, comes before 1 and 2. An answer that has its 7 words is written with every refusal.
-   Nothing else is, but a sheet's place, and what a fit writes that 7 or 8 ends.
+   Every call but xangoravit_scratch_words returns 0, or the number of its refusal. n not from 1 to 4,096 (of
+   xangoravit_solve to 64) or p not from 1 to 64 is refused with 1 (but by xangoravit_read_header, which asks only for
+   bytes); then a slice of the wrong length with 2, whether of doubles or of words, the scratch excepted: one that is too
+   short is 4, and a longer one will do. What is wrong with a sheet's bytes, 11 to 15, comes before 1 and 2. An answer that
+   has its 7 words is written with every refusal. Nothing else is, but a sheet's place, and what a fit writes that 7 or 8
+   ends.
 
    A word that holds a double holds its bits (copy them with memcpy). */
 #ifndef XANGORAVIT_H
@@ -73,12 +74,9 @@ uint64_t xangoravit_read_sheet(const uint8_t *bytes, size_t bytes_length, size_t
                                double *x, size_t x_length, double *y, size_t y_length,
                                uint64_t *header, size_t header_length, uint64_t *place, size_t place_length);
 
-/* The doubles of scratch that a fit needs; more are left alone. */
-static inline size_t xangoravit_scratch(size_t n, size_t p, const uint64_t *settings)
-{
-    size_t r = settings[XANGORAVIT_PANEL_ROWS], c = settings[XANGORAVIT_PANEL_COLS];
-    return p * p + 40 * p + 4 * (n + p) + (settings[XANGORAVIT_LAZY] ? 2 * r * c + c * c : (n + p) * p);
-}
+/* The doubles of scratch that a fit needs: lend start and resume so many, or more, which are left alone. 0 where n, p or a
+   setting is out of range, or the settings have not their 8 words: then no scratch will do, and a start says why. */
+size_t xangoravit_scratch_words(size_t n, size_t p, const uint64_t *settings, size_t settings_length);
 
 /* Checks everything, prepares the scratch and writes the record; makes no step. Refusals 1 to 6. */
 uint64_t xangoravit_start(size_t n, size_t p, const double *x, size_t x_length, const double *y, size_t y_length,

@@ -11,6 +11,7 @@ const LIMIT: u64 = 2;
 #[rustfmt::skip]
 #[link(name = "c_api", kind = "static")]
 unsafe extern "C" {
+    fn xangoravit_scratch_words(n: usize, p: usize, settings: *const u64, settings_length: usize) -> usize;
     fn xangoravit_start(n: usize, p: usize, x: *const f64, x_length: usize, y: *const f64, y_length: usize, settings: *const u64, settings_length: usize,
         scratch: *mut f64, scratch_length: usize, record: *mut u64, record_length: usize, answer: *mut u64, answer_length: usize) -> u64;
     fn xangoravit_resume(n: usize, p: usize, x: *const f64, x_length: usize, y: *const f64, y_length: usize, settings: *const u64, settings_length: usize,
@@ -30,8 +31,7 @@ struct Fitted {
 /// Fits in budgets of so many steps; a refusal is its number and place.
 #[rustfmt::skip]
 fn fit(n: usize, p: usize, x: &[f64], y: &[f64], settings: &[u64; SETTINGS], weights: &mut [f64], budget: u64) -> Result<Fitted, (u64, u64)> {
-    // an eager fit's need
-    let mut scratch = vec![0.0; p * p + 40 * p + 4 * (n + p) + (n + p) * p];
+    let mut scratch = vec![0.0; unsafe { xangoravit_scratch_words(n, p, settings.as_ptr(), SETTINGS) }];
     let (mut record, mut answer) = ([0; RECORD], [0; ANSWER]);
     let (s, r, a, w) = (scratch.as_mut_ptr(), record.as_mut_ptr(), answer.as_mut_ptr(), weights.as_mut_ptr());
     // The slices are ours, as long as is said, and apart.

@@ -1,4 +1,4 @@
-"""What a comparison stands on: the oracle's fixed build, our archives, and the driver. What is missing here is asked of Debian where that may be, and then named."""
+"""What a comparison stands on: the oracle's fixed build, our archives, and the driver. What is missing here is named, or installed where that is asked for."""
 import glob
 import hashlib
 import os
@@ -14,26 +14,30 @@ BUILD = os.environ.get("XANGORAVIT_BUILD", f"{REPOSITORY}/oracle/target")
 SOURCES = os.environ.get("XANGORAVIT_SRC", f"{REPOSITORY}/../shared/docs/src")
 CRATES = ["c_api", "sheet_api"]
 OLDEST = (1, 85)  # the first rustc that has the oracle's edition
+# A C compiler for x86-64, with Debian's packages of it: here, and on a machine that is another
+NATIVE, CROSS = ("gcc", ["gcc", "libc6-dev"]), ("x86_64-linux-gnu-gcc", ["gcc-x86-64-linux-gnu", "libc6-dev-amd64-cross"])
 
 
 class Missing(Exception):
     """No comparison is possible here; the text says why."""
 
 
-def from_debian(*packages):
-    """Whether it went well shows in what is there afterwards."""
-    if os.geteuid() != 0 or not shutil.which("apt-get"):
+def get(compiler, install):
+    """Has Debian's packages of all that is missing installed where that is asked for, which tools/packages decides; else names the one command that would."""
+    name, packages = compiler
+    there = os.environ.get("CC") or shutil.which(name)
+    missing = [] if there else list(packages)
+    missing += subprocess.run([f"{REPOSITORY}/oracle/build", "--packages"], check=True, stdout=subprocess.PIPE, text=True).stdout.split()
+    if not missing:
         return
-    apt = ["apt-get", "-q", "-o", "Acquire::Retries=0", "-o", "Acquire::http::Timeout=20"]
-    for words in (["update"], ["install", "-y", "--no-install-recommends", *packages]):
-        subprocess.run([*apt, *words], stdin=subprocess.DEVNULL, stdout=sys.stderr, env={**os.environ, "DEBIAN_FRONTEND": "noninteractive"})
+    told = subprocess.run([f"{REPOSITORY}/tools/packages", *(["--install"] if install else []), *missing], stdout=subprocess.PIPE, text=True)
+    if told.returncode != 0:
+        raise Missing(f"packages are missing (set CC, RUSTC or NUM_TRAITS instead). As root, this installs them, and --install does: {told.stdout.strip()}")
 
 
-def tool(variable, name, *packages):
+def tool(variable, name):
     """The tool that a variable of the environment names, or the usual one."""
-    chosen = os.environ.get(variable, name)
-    if not shutil.which(chosen) and chosen == name and packages:
-        from_debian(*packages)
+    chosen = os.environ.get(variable) or name
     if not shutil.which(chosen):
         raise Missing(f"no {chosen} (set {variable})")
     return chosen
@@ -73,16 +77,9 @@ def emulator(rt):
     return [path]
 
 
-def linker(emulated):
-    """A C compiler for x86-64; what an emulator runs needs no loader."""
-    if emulated:
-        return [tool("CC", "x86_64-linux-gnu-gcc", "gcc-x86-64-linux-gnu", "libc6-dev-amd64-cross"), "-static"]
-    return [tool("CC", "gcc", "gcc", "libc6-dev"), "-no-pie"]
-
-
-def linked(compiler, archives, room):
+def linked(linker, archives, room):
     driver = f"{room}/driver"
-    subprocess.run([*compiler, "-O2", "-fno-strict-aliasing", "-o", driver, *sorted(glob.glob(f"{HERE}/*.c")), *archives], check=True)
+    subprocess.run([*linker, "-O2", "-fno-strict-aliasing", "-o", driver, *sorted(glob.glob(f"{HERE}/*.c")), *archives], check=True)
     return driver
 
 
@@ -95,18 +92,20 @@ def sum_of(paths):
     return total.hexdigest()
 
 
-def builds(archives, room):
+def builds(archives, room, install):
     """The oracle, the driver's command, and a sum over all that an answer depends on. What cannot be installed is looked for first."""
     if not os.path.isdir(SOURCES):
         raise Missing(f"the oracle's sources are not at {SOURCES} (set XANGORAVIT_SRC)")
     rt = tool("RT", "rt")
     before = emulator(rt)
-    compiler = linker(before)
-    new_enough(tool("RUSTC", "rustc", "rustc"))
+    compiler = CROSS if before else NATIVE
+    get(compiler, install)
+    linker = [tool("CC", compiler[0]), "-static" if before else "-no-pie"]  # what an emulator runs needs no loader
+    new_enough(tool("RUSTC", "rustc"))
     judge = oracle()
     if not archives:
         for crate in CRATES:
             subprocess.run([rt, "staticlib", crate], cwd=REPOSITORY, check=True, stdout=sys.stderr)
         archives = [f"{REPOSITORY}/target/staticlib/lib{crate}.a" for crate in CRATES]
-    driver = linked(compiler, archives, room)
+    driver = linked(linker, archives, room)
     return judge, [*before, driver], sum_of([judge, driver, f"{HERE}/run", f"{REPOSITORY}/oracle/generate.py"])

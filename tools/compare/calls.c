@@ -57,11 +57,25 @@ void give(const struct copy *from, const struct call *c) {
     memcpy(c->s, from->s, c->s_len * 8);
 }
 
-// 01: p² + 40p + 4(n+p), plus (n+p)p eager, plus 2RC + C² lazy
+// ---- 01's ranges and its need, written down a second time
+
+int in_size(size_t n, size_t p) { return n >= 1 && n <= 4096 && p >= 1 && p <= 64; }
+
+static int in_range(u64 bits, double most) { return of_bits(bits) >= 0.0 && of_bits(bits) <= most; }
+
+// Panels are looked at where the fit is lazy only.
+int settled(const u64 *set) {
+    if (!in_range(set[0], 1e6) || !in_range(set[1], 1.0) || !in_range(set[2], 0x1.fffffffffffffp1023) || set[3] > 1000) return 0;
+    return !set[7] || (set[4] >= 1 && set[4] <= 256 && set[5] >= 1 && set[5] <= 32);
+}
+
+// p² + 40p + 4(n+p), plus (n+p)p eager, plus 2RC + C² lazy
 size_t need_of(size_t n, size_t p, const u64 *settings) {
     size_t rows = settings[4], columns = settings[5], both = p * p + 40 * p + 4 * (n + p);
     return settings[7] ? both + 2 * rows * columns + columns * columns : both + (n + p) * p;
 }
+
+// ---- what a call leaves
 
 // By a call that is refused, or pending without a step; whatever patterns the words have.
 void unwritten(const struct copy *before, const struct call *c) {

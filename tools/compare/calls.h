@@ -12,6 +12,7 @@ extern u64 xangoravit_resume(size_t n, size_t p, const u64 *x, size_t x_len, con
 extern u64 xangoravit_predict(size_t n, size_t p, const u64 *x, size_t x_len, const u64 *w, size_t w_len, double b, u64 *out, size_t out_len, u64 *answer, size_t answer_len);
 extern u64 xangoravit_solve(size_t n, const u64 *a, size_t a_len, const u64 *b, size_t b_len, u64 *x, size_t x_len, double tol, size_t limit, u64 *s, size_t s_len,
                             u64 *answer, size_t answer_len);
+extern size_t xangoravit_scratch_words(size_t n, size_t p, const u64 *settings, size_t settings_len);
 
 enum { SETTINGS = 8, RECORD = 16, ANSWER = 7, MOST = 270000, SCRATCH = 290000 };
 
@@ -35,6 +36,8 @@ u64 start(const struct call *c);
 u64 resume(const struct call *c, u64 budget);
 void take(struct copy *to, const struct call *c);
 void give(const struct copy *from, const struct call *c);
+int in_size(size_t n, size_t p);
+int settled(const u64 *settings);
 size_t need_of(size_t n, size_t p, const u64 *settings);
 void unwritten(const struct copy *before, const struct call *c);
 void nothing_left(const struct call *c, const struct copy *before);

@@ -7,5 +7,6 @@
 void answered(const char *path, u64 seed); // fits, solver or predict, as `what` says
 void tampered(u64 seed, u64 count);
 void sheets(u64 seed, u64 count);
+void scratch(u64 seed, u64 count);
 
 #endif

@@ -9,8 +9,6 @@
 
 // ---- 01's refusals
 
-static int in_range(u64 bits, double most) { return of_bits(bits) >= 0.0 && of_bits(bits) <= most; }
-
 static int misplaced(u64 limit, const u64 *rec) {
     u64 stage = rec[0], index = rec[1], round = rec[2];
     if (stage > 2) return 1;
@@ -24,13 +22,11 @@ static int overcounted(const u64 *rec) { return rec[4] > 4999 * rec[3] || rec[5]
 
 // Words are slices too: 2 is theirs as well, and the settings are looked at only then.
 static u64 limits(const struct call *c) {
-    const u64 *set = c->settings;
-    if (c->n < 1 || c->n > 4096 || c->p < 1 || c->p > 64) return 1;
+    if (!in_size(c->n, c->p)) return 1;
     if (c->x_len != c->n * c->p || c->y_len != c->n || c->w_len != c->p) return 2;
     if (c->settings_len != SETTINGS || c->rec_len != RECORD || c->answer_len != ANSWER) return 2;
-    if (!in_range(set[0], 1e6) || !in_range(set[1], 1.0) || !in_range(set[2], 0x1.fffffffffffffp1023) || set[3] > 1000) return 3;
-    if (set[7] && (set[4] < 1 || set[4] > 256 || set[5] < 1 || set[5] > 32)) return 3;
-    return c->s_len < need_of(c->n, c->p, set) ? 4 : 0;
+    if (!settled(c->settings)) return 3;
+    return c->s_len < need_of(c->n, c->p, c->settings) ? 4 : 0;
 }
 
 // A record that may be gone on with more often than not.
@@ -247,7 +243,7 @@ static void one_other(u64 seed) {
     mark(c.x, c.x_len), mark(c.y, c.y_len), mark(c.w, c.w_len), mark(c.s, c.s_len), mark(c.answer, c.answer_len);
     seal();
     take(&first, &c);
-    u64 expected = c.n < 1 || c.n > 4096 || c.p < 1 || c.p > 64 ? 1 : c.x_len != c.n * c.p || c.y_len != c.p || c.w_len != c.n || c.answer_len != ANSWER ? 2 : 0;
+    u64 expected = !in_size(c.n, c.p) ? 1 : c.x_len != c.n * c.p || c.y_len != c.p || c.w_len != c.n || c.answer_len != ANSWER ? 2 : 0;
     if (!expected) return;
     alarm(LASTING);
     u64 number = solve ? xangoravit_solve(c.n, c.x, c.x_len, c.y, c.y_len, c.w, c.w_len, 0.5, 9, c.s, c.s_len, c.answer, c.answer_len)

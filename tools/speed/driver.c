@@ -164,7 +164,8 @@ static void gather(const struct problem *q, double *s) {
     double *to = s + LENT;
     memcpy(to, s + 2 * p, 2 * p * sizeof *s);
     memcpy(to + 2 * p, s + 6 * p, 2 * p * sizeof *s);
-    memcpy(to + 4 * p, s + xangoravit_scratch(n, p, settings) - (settings[XANGORAVIT_LAZY] ? 1 : 1 + p) * (n + p), (n + p) * sizeof *s);
+    size_t behind = xangoravit_scratch_words(n, p, settings, XANGORAVIT_SETTINGS) - (settings[XANGORAVIT_LAZY] ? 1 : 1 + p) * (n + p);
+    memcpy(to + 4 * p, s + behind, (n + p) * sizeof *s);
     to[5 * p + n] = of_bits(record[7]);
 }
 
