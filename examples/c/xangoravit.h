@@ -27,7 +27,7 @@ enum {
     XANGORAVIT_ALPHA,     /* bits of a double, 0 to 1,000,000 */
     XANGORAVIT_L1_RATIO,  /* bits of a double, 0 to 1 */
     XANGORAVIT_TOL,       /* bits of a double, finite and at least 0 */
-    XANGORAVIT_ROUNDS,    /* M, the most rounds that are made: 0 to 1,000 */
+    XANGORAVIT_MAX_ITER,  /* M, the most rounds that are made: 0 to 1,000 */
     XANGORAVIT_PANEL_ROWS,
     XANGORAVIT_PANEL_COLS,
     XANGORAVIT_NORMALISE, /* 0: no; any other word: yes */

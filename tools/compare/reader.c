@@ -1,4 +1,4 @@
-// Written from document 01 alone, "Training sheet": the bytes in their order, the refusals in theirs; words of the wrong number are a 2 like other slices. Writes
+// Written from document 01 alone, "Training sheet": the bytes in their order, the refusals in theirs; a wrong number of words is a 2 as with other slices. Writes
 // nothing but the place where it refuses.
 #include "reader.h"
 

@@ -24,7 +24,7 @@ struct loan {
 static struct loan x = {.name = "matrix"}, y = {.name = "targets"}, header = {.name = "header"}, place = {.name = "place"};
 static struct arena bytes_room;
 static struct paper paper;
-static u64 read_whole, by_number[16], words_by_number[16], headers_read, headers_by_number[16], header_words_by_number[16]; // those with words of the wrong number apart
+static u64 read_whole, by_number[16], words_by_number[16], headers_read, headers_by_number[16], header_words_by_number[16]; // those with a wrong number of words apart
 
 static void lend(struct loan *l, size_t count) {
     l->count = count;

@@ -98,7 +98,7 @@ def start(c):
 def impossible(c):
     """9, clause by clause."""
     stage, limit, fresh = c["stage"], c["M"], c["round"] == 0
-    if stage == ENDED:
+    if stage >= ENDED:
         return True
     if stage == SOLVING and not 1 <= c["index"] <= 4999:
         return True
@@ -281,8 +281,13 @@ def stages():
         yield record(SEARCHING, index, 0, 1)
     yield record(ENDED, 0, 0, 0)
     yield record(ENDED, 1, 0, 1, budget=5)
+    # no stage has these words
+    for stage in (ENDED + 1, ALL_ONES):
+        yield record(stage, 0, 0, 0)
     # the index of an opening is not one
     yield record(OPENING, 5000, 0, 0)
+    # a yes that is not 1, and a NaN of another pattern: without a step they stay
+    yield record(OPENING, 0, 0, 0, missed=2, t=NAN + 1)
 
 
 def limit_rounds():

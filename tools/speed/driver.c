@@ -12,12 +12,10 @@
 #include "../../examples/c/xangoravit.h"
 #include "../bits.h"
 
-// Slices pass as pointer and length. An answer is the result's place in the scratch; 0 says that a size was wrong.
+// Slices pass as pointer and length. An answer is the result's place in the scratch; 0 says that a size or a setting was wrong.
 extern size_t measure_round(const double *gram, size_t gram_len, const double *given, size_t given_len, size_t p, double tol, size_t count, double *s, size_t s_len);
-extern size_t measure_lazy(size_t what, const double *m, size_t m_len, const double *given, size_t given_len, size_t n, size_t p, double alpha, double l1_ratio,
-                           size_t panel_rows, size_t panel_cols, size_t count, double *s, size_t s_len);
-extern size_t measure_eager(size_t what, const double *m, size_t m_len, const double *given, size_t given_len, size_t n, size_t p, double alpha, double l1_ratio,
-                            size_t count, double *s, size_t s_len);
+extern size_t measure_piece(size_t what, const double *m, size_t m_len, const double *given, size_t given_len, size_t n, size_t p,
+                            const uint64_t *settings, size_t settings_len, size_t count, double *s, size_t s_len);
 
 static const double ALPHA = 0.1, L1_RATIO = 0.5, TOL = DBL_MIN;
 static const size_t PANEL_ROWS = 256, PANEL_COLS = 32; // the Rust's panels
@@ -184,8 +182,7 @@ static size_t call(enum side side, size_t what, const struct problem *q, size_t 
     case TRIAL: return trials(q, count, 1, s);
     case STEP: return trials(q, count, count, s);
     case PREDICT: return predict(q, count, s);
-    case LAZY: return measure_lazy(what, q->x, n * p, q->vectors, vectors, n, p, ALPHA, L1_RATIO, PANEL_ROWS, PANEL_COLS, count, s, words);
-    default: return measure_eager(what, q->x, n * p, q->vectors, vectors, n, p, ALPHA, L1_RATIO, count, s, words);
+    default: return measure_piece(what, q->x, n * p, q->vectors, vectors, n, p, settings, XANGORAVIT_SETTINGS, count, s, words);
     }
 }
 
@@ -230,7 +227,7 @@ int main(int argc, char **argv) {
     size_t n = strtoul(argv[2], NULL, 10), p = strtoul(argv[3], NULL, 10), count = strtoul(argv[4], NULL, 10), calls = strtoul(argv[5], NULL, 10);
     if (!of || n < 2 || n > 4096 || p < 1 || p > 64 || count < 1 || calls < 1) fail("no such piece, or a size is wrong");
     struct problem q = problem(n, p);
-    set(of->what, limit);
+    set(of->side == LAZY || (of->side > EAGER && of->what), limit); // of a fit, a trial or a step `what` says whether it is lazy
     double *s = room(WORDS);
     uint64_t best = UINT64_MAX;
     size_t at = 0;

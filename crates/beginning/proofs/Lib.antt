@@ -1,2 +1,2 @@
-mod Starts
+pub mod Starts
 pub mod Sized

@@ -1,10 +1,8 @@
 -- Every vector of a fresh fit has its size. Assumes nothing.
-use mathlib.Core.Path.{_≡_, sym, ap, _∙_}
-use mathlib.Core.Bool.{Bool}
+use mathlib.Core.Path.{_≡_, refl, sym, ap, _∙_}
+use mathlib.Core.Bool.{Bool, true, false, cond}
 use mathlib.Core.List.{List}
 use Prim.Native.Nat.{ℕ, _+_, _*_}
-use native.Mathlib.Decide.{ℕ-discrete}
-use borrow.Author.Tests.{eq-eqb, ne-eqb}
 use lib.ListN.{length}
 use lib.Ieee.{Float}
 use Rattle.arrays.proofs.Part.{length-tab}
@@ -54,21 +52,21 @@ module _ (sh : Sizes) where
     unfolding targetsStore centredOf
     targets-sized ys v z = upd-sized sh v Y _ z (length-map _ _ _ ∙ sym all)
 
-    module _ (stored : (sh .rows ≡ 0 → ⊥) → sh .rows ≡ sh .k) (normalise : Bool) (tm : Terms) (m : List Float) where
-      design-sized : (v : Store) → (sh .rows ≡ 0 → ⊥) → Sized v → Sized (designStore sh normalise tm m v)
+    module _ (stored : sh .lazy ≡ false → sh .stored ≡ sh .k) (normalise : Bool) (tm : Terms) (m : List Float) where
+      design-sized : (v : Store) → sh .lazy ≡ false → Sized v → Sized (designStore sh normalise tm m v)
       unfolding designStore designOf
       design-sized v some z =
           upd-sized sh v DESIGN _ z (length-grid _ (sh .n + sh .p) (sh .p) ∙ ap (λ (x : ℕ). x * sh .p) (sym all ∙ sym (stored some)))
 
       prepared-sized : (v : Store) → Sized v → Sized (preparedStore sh normalise tm m v)
       unfolding preparedStore
-      prepared-sized v z s = go (ℕ-discrete (sh .rows) 0) where
-        go : Dec (sh .rows ≡ 0) → length (preparedStore sh normalise tm m v s) ≡ size sh s
-        go (yes none) = rw (eq-eqb (sh .rows) 0 none) (lazy-gram-sized tm m (recipStore sh v) (recip-sized v z) s)
-        go (no some) = rw (ne-eqb (sh .rows) 0 some) (gram-sized (designStore sh normalise tm m v) (design-sized v some z) s)
+      prepared-sized v z s = go (sh .lazy) refl where
+        go : (b : Bool) → sh .lazy ≡ b → length (cond b (lazyGramStore sh tm m (recipStore sh v)) (gramStore sh (designStore sh normalise tm m v)) s) ≡ size sh s
+        go true q = lazy-gram-sized tm m (recipStore sh v) (recip-sized v z) s
+        go false q = gram-sized (designStore sh normalise tm m v) (design-sized v q z) s
 
--- with sizes of a fit: the stored design has no row or all of n + p
-pub start-sized : (sh : Sizes) (normalise : Bool) (tm : Terms) (m ys : List Float) → sh .k ≡ sh .n + sh .p → ((sh .rows ≡ 0 → ⊥) → sh .rows ≡ sh .k)
+-- with sizes of a fit: a stored design has all n + p rows
+pub start-sized : (sh : Sizes) (normalise : Bool) (tm : Terms) (m ys : List Float) → sh .k ≡ sh .n + sh .p → (sh .lazy ≡ false → sh .stored ≡ sh .k)
     → (s : Slot) → length (startStore sh normalise tm m ys s) ≡ size sh s
 unfolding startStore
 start-sized sh normalise tm m ys all stored =

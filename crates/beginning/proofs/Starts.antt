@@ -1,11 +1,10 @@
 -- What the calls of a start ask, and what they leave together, over the store. Assumes nothing.
-use mathlib.Core.Path.{_≡_, ap, _∙_}
-use mathlib.Core.Bool.{Bool}
+use mathlib.Core.Path.{_≡_, sym, ap, subst, _∙_}
+use mathlib.Core.Bool.{Bool, true, false, cond}
 use mathlib.Core.List.{List}
 use Prim.Native.Nat.{ℕ, _*_, _≤_}
 use native.Mathlib.Nat.{mul-le-mul}
 use native.Mathlib.Omega.{arith}
-use borrow.Author.Tests.{eq-eqb, ne-eqb}
 use lib.ListN.{length}
 use lib.Ieee.{Float, neg}
 use Rattle.numbers.specs.Constants.{one}
@@ -44,7 +43,7 @@ module _ {sh : Sizes} {l : Places} {m s : List Float} (b : Begins sh l m s) wher
   pub given : Given sh l m s
   given = record { room = b .room; matrix = omega (arith, b .matrix); rows = b .rows; columns = b .columns }
 
-  pub lent : sh .rows ≡ 0 → Lent sh l m s
+  pub lent : sh .lazy ≡ true → Lent sh l m s
   lent z =
       let least : sh .n ≤ sh .n = omega arith in
       let few : sh .n * 1 ≤ sh .n * sh .p = mul-le-mul least (b .some-columns) in
@@ -67,13 +66,16 @@ blanked {sh} {m = m} {m₁ = m₁} w h k e₁ e₂ e₃ =
     let h₂ = then sh h₁ U (λ u. fillOf one (sh .p)) (length-fill _ _) (rw (w .at-u) at e₂) in
     then sh h₂ F (λ u. fillOf (neg one) (2 * sh .p)) (length-fill _ _) (rw (w .at-f) at e₃)
 
-module _ (sh : Sizes) (normalise : Bool) (tm : Terms) (m s : List Float) {s₁ s₂ : List Float} where
-  pub unstored : sh .rows ≡ 0 → Has sh (rest sh s) (recipStore sh (vars sh s)) s₁ → Has sh (rest sh s₁) (lazyGramStore sh tm m (vars sh s₁)) s₂
-      → Has sh (rest sh s) (preparedStore sh normalise tm m (vars sh s)) s₂
-  unfolding preparedStore
-  unstored z h₁ h₂ = rw (eq-eqb (sh .rows) 0 z) (next sh h₁ (lazyGramStore sh tm m) h₂)
+module _ (sh : Sizes) (normalise : Bool) (tm : Terms) (m s : List Float) where
+  abbrev byMode : Bool → Store
+  byMode b = cond b (lazyGramStore sh tm m (recipStore sh (vars sh s))) (gramStore sh (designStore sh normalise tm m (vars sh s)))
 
-  pub stored : (sh .rows ≡ 0 → ⊥) → Has sh (rest sh s) (designStore sh normalise tm m (vars sh s)) s₁ → Has sh (rest sh s₁) (gramStore sh (vars sh s₁)) s₂
+  pub unstored : {s₁ s₂ : List Float} → sh .lazy ≡ true → Has sh (rest sh s) (recipStore sh (vars sh s)) s₁ → Has sh (rest sh s₁) (lazyGramStore sh tm m (vars sh s₁)) s₂
       → Has sh (rest sh s) (preparedStore sh normalise tm m (vars sh s)) s₂
   unfolding preparedStore
-  stored z h₁ h₂ = rw (ne-eqb (sh .rows) 0 z) (next sh h₁ (gramStore sh) h₂)
+  unstored {s₂ = s₂} z h₁ h₂ = subst (λ (b : Bool). Has sh (rest sh s) (byMode b) s₂) (sym z) (next sh h₁ (lazyGramStore sh tm m) h₂)
+
+  pub stored : {s₁ s₂ : List Float} → sh .lazy ≡ false → Has sh (rest sh s) (designStore sh normalise tm m (vars sh s)) s₁ → Has sh (rest sh s₁) (gramStore sh (vars sh s₁)) s₂
+      → Has sh (rest sh s) (preparedStore sh normalise tm m (vars sh s)) s₂
+  unfolding preparedStore
+  stored {s₂ = s₂} z h₁ h₂ = subst (λ (b : Bool). Has sh (rest sh s) (byMode b) s₂) (sym z) (next sh h₁ (gramStore sh) h₂)

@@ -1,6 +1,6 @@
 -- The vectors of a fresh fit. Definitions only.
 use mathlib.Core.Path.{_≡_}
-use mathlib.Core.Bool.{Bool, cond}
+use mathlib.Core.Bool.{Bool, true, false, cond}
 use mathlib.Core.List.{List}
 use Prim.Native.Nat.{_+_, _*_, _≤_}
 use lib.ListN.{length}
@@ -17,7 +17,6 @@ use Rattle.lazy_normalization.specs.Lazy.{recipStore}
 use Rattle.lazy_gram.specs.Gram.{lazyGramStore}
 use Rattle.design.specs.Statistics.{statisticsStore, targetsStore}
 use Rattle.design.specs.Eager.{designStore, gramStore}
-use Rattle.design.specs.Mode.{isLazy}
 
 -- +0, but for the bounds, which are 1, and f, which is -1
 unfoldable pub blankStore : Sizes → Store
@@ -26,7 +25,7 @@ blankStore sh = all-of sh plus0 ⟨ U ≔ (λ u. fillOf one (sh .p)) ⟩ ⟨ F �
 -- the Gram, and what the products will need: the design, or the reciprocals of the scales
 unfoldable pub preparedStore : Sizes → Bool → Terms → List Float → Store → Store
 preparedStore sh normalise tm m v =
-    cond (isLazy sh) (lazyGramStore sh tm m (recipStore sh v)) (gramStore sh (designStore sh normalise tm m v))
+    cond (sh .lazy) (lazyGramStore sh tm m (recipStore sh v)) (gramStore sh (designStore sh normalise tm m v))
 
 -- a fresh fit, each part from those before it: statistics, targets, then the design and its Gram
 unfoldable pub startStore : Sizes → Bool → Terms → List Float → List Float → Store
@@ -41,6 +40,6 @@ pub record Begins (sh : Sizes) (l : Places) (m s : List Float) : Type 0 where
   pub some-columns : 1 ≤ sh .p
   pub columns : sh .p ≤ 64
   pub all : sh .k ≡ sh .n + sh .p
-  pub stored : (sh .rows ≡ 0 → ⊥) → sh .rows ≡ sh .k
-  pub panel-rows : sh .rows ≡ 0 → 1 ≤ sh .pr
-  pub panel-columns : sh .rows ≡ 0 → 1 ≤ sh .pc
+  pub stored : sh .lazy ≡ false → sh .stored ≡ sh .k
+  pub panel-rows : sh .lazy ≡ true → 1 ≤ sh .pr
+  pub panel-columns : sh .lazy ≡ true → 1 ≤ sh .pc

@@ -34,7 +34,7 @@ fn prepare(m: &[f64], sh: Sizes, normalise: bool, tm: Terms, s: &mut [f64], l: P
     requires { ⌜ Begins sh l (now m) (now s) ⌝ }
     ensures { λ _. ⌜ Makes sh (preparedStore sh normalise tm (now (m .entry))) (now (s .entry)) (now (s .exit)) ⌝ }
 {
-    if sh.rows == 0 {
+    if sh.lazy {
         reciprocals(s, sh, l);
         lazy_gram::gram(m, sh, tm, s, l);
         return;
@@ -76,7 +76,7 @@ pub fn fresh_scalars(p: usize, lambda: f64) -> Scalars
         t: canonical(t),
         s: 1.0 / 0.0,
         dual: 0.0,
-        tol: 0.0,
+        pcgtol: 0.0,
         bnrm: 0.0,
         bkden: 0.0,
         error: 0.0,

@@ -19,7 +19,7 @@ use Rattle.numbers.proofs.PowersOfTwo.{le-self, power-le, double-positive, doub
 use Rattle.numbers.specs.Constants.{half}
 use Rattle.arrays.specs.Sums.{whole}
 use Rattle.newton.specs.Newton.{eta, startT, nextT}
-use Rattle.bound.specs.Kept.{power2, Bounded}
+use Rattle.bound.specs.Guarded.{power2, Bounded}
 
 pub bounded-positive : (k : ℕ) (t : Float) → Bounded k t → T (positive t)
 bounded-positive k t b = between one t (power2 (17 + k)) tt tt (b .at-least) (b .at-most)

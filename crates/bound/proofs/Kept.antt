@@ -1,4 +1,4 @@
--- `Kept` holds at the start, when a round opens, with any gap, and at an accepted trial. Assumes nothing.
+-- `Guarded` holds at the start, when a round opens, with any gap, and at an accepted trial. Assumes nothing.
 use mathlib.Core.Path.{_≡_}
 use mathlib.Core.Bool.{true}
 use mathlib.Core.List.{List}
@@ -16,7 +16,7 @@ use Rattle.arrays.specs.Vectors.{fillOf}
 use Rattle.arrays.proofs.Lengths.{length-fill}
 use Rattle.newton.specs.Newton.{startT, nextT}
 use Rattle.line_search.specs.Search.{facesOf, largestOf, sumlognegOf, phiOf, decreases}
-use Rattle.bound.specs.Kept.{Inside, Bounded, Kept}
+use Rattle.bound.specs.Guarded.{Inside, Bounded, Guarded}
 use Rattle.bound.proofs.Barrier.{bounded-positive, later, start-bounded, next-bounded}
 use Rattle.bound.proofs.Trial.{accepted-inside}
 
@@ -29,7 +29,7 @@ filled : (p i : ℕ) → i < p → Inside (fillOf plus0 p ! i) (fillOf one p ! i
 unfolding fillOf
 filled p i h = rw (getD-tab (λ j. plus0) p i nan h, getD-tab (λ j. one) p i nan h) zero-in-one
 
-pub kept-start : (p : ℕ) (lambda : Float) → 0 < p → p ≤ 64 → Kept p 0 (startT p lambda) (fillOf plus0 p) (fillOf one p)
+pub kept-start : (p : ℕ) (lambda : Float) → 0 < p → p ≤ 64 → Guarded p 0 (startT p lambda) (fillOf plus0 p) (fillOf one p)
 kept-start p lambda P h = record {
   columns = length-fill plus0 p;
   bounds = length-fill one p;
@@ -37,7 +37,7 @@ kept-start p lambda P h = record {
   barrier = start-bounded p lambda P h;
 }
 
-pub kept-round : (p k : ℕ) (s gap t : Float) (ws us : List Float) → k < 1006 → Kept p k t ws us → Kept p (k + 1) (nextT p s gap t) ws us
+pub kept-round : (p k : ℕ) (s gap t : Float) (ws us : List Float) → k < 1006 → Guarded p k t ws us → Guarded p (k + 1) (nextT p s gap t) ws us
 kept-round p k s gap t ws us h c = record {
   columns = c .columns;
   bounds = c .bounds;
@@ -46,12 +46,12 @@ kept-round p k s gap t ws us h c = record {
 }
 
 -- a round that ends the fit leaves t as it was
-pub kept-later : (p k : ℕ) (t : Float) (ws us : List Float) → Kept p k t ws us → Kept p (k + 1) t ws us
+pub kept-later : (p k : ℕ) (t : Float) (ws us : List Float) → Guarded p k t ws us → Guarded p (k + 1) t ws us
 kept-later p k t ws us c = record { columns = c .columns; bounds = c .bounds; inside = c .inside; barrier = later k (k + 1) t (omega arith) (c .barrier) }
 
 pub kept-accept : (p k : ℕ) (lambda t zz phi s gdx : Float) (ws us : List Float) → length ws ≡ p → length us ≡ p → T (unsigned lambda) → Bounded k t
     → lt (largestOf (2 * p) (facesOf p ws us)) plus0 ≡ true
-    → decreases (phiOf lambda t zz (sumOf p us) (sumlognegOf (2 * p) (facesOf p ws us))) phi s gdx ≡ true → Kept p k t ws us
+    → decreases (phiOf lambda t zz (sumOf p us) (sumlognegOf (2 * p) (facesOf p ws us))) phi s gdx ≡ true → Guarded p k t ws us
 kept-accept p k lambda t zz phi s gdx ws us ew eu L B b d = record {
   columns = ew;
   bounds = eu;

@@ -23,7 +23,7 @@ use Rattle.arrays.specs.Sums.{_!_, sumOf, plus0}
 use Rattle.matrices.proofs.Grid.{length-grid}
 use Rattle.line_search.specs.Search.{facesOf, facesList, largestOf, sumlognegOf, phiOf, alpha, decreases}
 use Rattle.line_search.proofs.Lists.{largest-list, sumlogneg-list, sum-list, faces-list}
-use Rattle.bound.specs.Kept.{Inside}
+use Rattle.bound.specs.Guarded.{Inside}
 
 -- ---- a weight and its bound
 ln-high : (x : Float) → T (high x) → T (high (lnOf x))

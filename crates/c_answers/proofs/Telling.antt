@@ -1,12 +1,10 @@
 -- What an answer says, case by case. Assumes nothing.
 use mathlib.Core.Path.{_≡_, refl}
-use mathlib.Core.Bool.{false, not}
+use mathlib.Core.Bool.{Bool, false, not}
 use Prim.Native.Nat.{ℕ}
-use lib.Dec.{eqb}
 use lib.Ieee.{Float}
-use borrow.Author.Tests.{ne-eqb}
 use Rattle.refusal.specs.declared.Refusal.{Refusal}
-use Rattle.refusal.specs.Refusal.{numberOf}
+use Rattle.refusal.specs.Refusal.{numberOf, endsFit}
 use Rattle.records.specs.declared.Counts.{Counts}
 use Rattle.refusal.specs.declared.Way.{Way}
 use Rattle.refusal.specs.declared.Way.the-variants.{Converged, Limit}
@@ -33,8 +31,5 @@ module _ (budget : ℕ) where
   pub done-written : {a : Answer} {b : Float} {w : Way} {c : Counts} → a ≡ Done b w c → false ≡ keeps (said a) budget
   done-written {a} {b} {w} {c} q = rw q (written b w c)
 
-  pub search-written : {a : Answer} {r : Refusal} {k : ℕ} → a ≡ Refused r → k ≡ numberOf r → k ≡ 7 → false ≡ keeps (said a) budget
-  search-written q e h = rw (q, ← e, h)
-
-  pub others : {a : Answer} {r : Refusal} {k : ℕ} → a ≡ Refused r → k ≡ numberOf r → (k ≡ 7 → ⊥) → not (eqb k 8) ≡ keeps (said a) budget
-  others {k = k} q e h = rw (q, ← e, ne-eqb k 7 h)
+  pub refusal-written : {a : Answer} {r : Refusal} {b : Bool} → a ≡ Refused r → b ≡ endsFit (numberOf r) → not b ≡ keeps (said a) budget
+  refusal-written q e = rw (q, e)

@@ -1,4 +1,4 @@
--- Words of the wrong number: the answer is written where it has its own 7, and else left. Assumes nothing.
+-- A wrong number of words: the answer is written where it has its own 7, and else left. Assumes nothing.
 use mathlib.Core.Path.{_≡_}
 use mathlib.Core.Bool.{Bool, cond}
 use mathlib.Core.List.{List, []}

@@ -1,10 +1,10 @@
 -- What a call's answer says, as words: kind (0 pending or ready, 1 converged, 2 limit, 3 refused), number, place, the three counts, the intercept.
 -- Definitions only.
-use mathlib.Core.Bool.{Bool, false, not, _||_}
+use mathlib.Core.Bool.{Bool, false, not}
 use mathlib.Core.List.{List, [], _∷_}
 use Prim.Native.Nat.{ℕ}
 use lib.Dec.{eqb}
-use Rattle.refusal.specs.Refusal.{numberOf, placeOf}
+use Rattle.refusal.specs.Refusal.{numberOf, placeOf, endsFit}
 use Rattle.records.specs.declared.Counts.{Counts}
 use Rattle.refusal.specs.declared.Way.{Way}
 use Rattle.refusal.specs.declared.Way.the-variants.{Converged as ConvergedW, Limit as LimitW}
@@ -44,12 +44,12 @@ interceptIn (refused n i) = 0
 unfoldable pub answerWords : Said → Counts → List ℕ
 answerWords a c = kindOf a ∷ numberIn a ∷ placeIn a ∷ c .rounds .0 ∷ c .solver .0 ∷ c .trials .0 ∷ interceptIn a ∷ []
 
--- whether a call with this budget leaves the record's words as they were: where it is refused, but for 7 and 8, and where it is pending without a step
+-- whether a call with this budget leaves the record's words as they were: where it is refused, unless that ends the fit, and where it is pending without a step
 abbrev pub keeps : Said → ℕ → Bool
 keeps pending budget = eqb budget 0
 keeps (converged b c) budget = false
 keeps (limit b c) budget = false
-keeps (refused n i) budget = not (eqb n 7 || eqb n 8)
+keeps (refused n i) budget = not (endsFit n)
 
 -- ---- a start
 

@@ -1,4 +1,4 @@
--- What a call over words returns and leaves, and what it does where words are of the wrong number. Definitions only.
+-- What a call over words returns and leaves, and what it does with a wrong number of words. Definitions only.
 use mathlib.Core.Bool.{Bool, cond}
 use mathlib.Core.List.{List}
 use Prim.Native.Nat.{ℕ}
@@ -18,7 +18,7 @@ use Rattle.c_answers.specs.Answers.{answerWords}
 pub data Called : Type 0 where
   called : ℕ → List ℕ → List ℕ → List Float → List Float → Called
 
--- ---- words of the wrong number: 1 where n or p is out of range, else 2
+-- ---- a wrong number of words: 1 where n or p is out of range, else 2
 
 -- the answer says so where it has its 7 words; record, weights and scratch are as they were
 unfoldable pub unread : Bool → Counts → List ℕ → List ℕ → List Float → List Float → Called

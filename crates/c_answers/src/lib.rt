@@ -1,5 +1,6 @@
-// What the calls for C and Rust say in words: what is told of each answer, the record's words, which stay or are written anew, and the answer to words of
-// the wrong number.
+// What the calls for C and Rust say in words: what is told of each answer, the record's words, which stay or are written anew, and the answer to a
+// wrong number of words.
+use c_values::SETTINGS_WORDS;
 use c_words::Told;
 use c_words::paused_from;
 use c_words::write_answer;
@@ -13,6 +14,7 @@ use records::Paused;
 use records::no_counts;
 use refusal::Refusal;
 use refusal::Way;
+use refusal::ends_fit;
 use refusal::in_size;
 use refusal::number;
 use refusal::place;
@@ -25,24 +27,19 @@ ghost use Rattle.refusal.specs.declared.Refusal.the-variants.{Size, Length};
 ghost use Rattle.refusal.specs.Sizes.{inSize};
 ghost use Rattle.refusal.specs.Refusal.{numberOf, placeOf};
 ghost use Rattle.elastic_net.specs.ElasticNet.{Said.refused as refusedSaid, said, saidS};
+ghost use Rattle.c_values.specs.Settings.{settings-words};
 ghost use Rattle.c_words.specs.Words.{pausedWords};
 ghost use Rattle.c_answers.specs.Answers.{keeps, toldOf, startedSaid, startedRecord, toldPredicted, toldSolved, wayOf};
 ghost use Rattle.c_answers.specs.Called.{Called.called, unread, countsIn};
 
-// Whether the record's words stay as they were: a refusal but for 7 and 8, or no step.
+// Whether the record's words stay as they were: a refusal that ends no fit, or no step.
 fn stays(a: Answer, budget: u64) -> bool
     ensures { λ r. ⌜ r ≡ keeps (said a) budget ⌝ }
 {
     match a {
         Answer::Pending => budget == 0,
         Answer::Done(_, _, _) => false,
-        Answer::Refused(r) => {
-            let k = number(r);
-            if k == 7 {
-                return false;
-            }
-            k != 8
-        }
+        Answer::Refused(r) => !ends_fit(r),
     }
 }
 
@@ -154,13 +151,13 @@ pub fn solved(o: lone_solver::Answer) -> Told
     }
 }
 
-// ---- words of the wrong number
+// ---- a wrong number of words
 
 // Settings, record and answer have the words that are due.
 pub fn due(settings: usize, rec: usize, answer: usize) -> bool
-    ensures { λ r. ⌜ r ≡ (eqb settings 8 && eqb rec 16 && eqb answer 7) ⌝ }
+    ensures { λ r. ⌜ r ≡ (eqb settings settings-words && eqb rec 16 && eqb answer 7) ⌝ }
 {
-    if settings != 8 {
+    if settings != SETTINGS_WORDS {
         return false;
     }
     if rec != 16 {
@@ -169,7 +166,7 @@ pub fn due(settings: usize, rec: usize, answer: usize) -> bool
     answer == 7
 }
 
-// The counts that an answer shows with words of the wrong number: the record's, or 0 where it has not its 16 words.
+// The counts that an answer shows with a wrong number of words: the record's, or 0 where it has not its 16.
 pub fn counts_in(rec: &[u64]) -> Counts
     ensures { λ r. ⌜ r ≡ countsIn (now (rec .entry)) ⌝ }
 {

@@ -19,7 +19,7 @@ use Rattle.records.specs.declared.Paused.{Paused}
 use Rattle.records.specs.Record.{countsBack}
 use Rattle.elastic_net.specs.declared.Resumed.{Resumed}
 use Rattle.elastic_net.specs.declared.Started.{Started}
-use Rattle.elastic_net.specs.ElasticNet.{said, saidS, outcome, begun, resumeOf, startOf}
+use Rattle.elastic_net.specs.ElasticNet.{said, saidS, outcome, startOutcome, resumeOf, startOf}
 use Rattle.checks.specs.Checks.{scratchWords}
 use Rattle.prediction.specs.declared.Predicted.{Predicted}
 use Rattle.prediction.specs.declared.Predicted.the-variants.{Done as DoneP, Refused as RefusedP}
@@ -28,7 +28,7 @@ use Rattle.lone_solver.specs.declared.Answer.{Answer as AnswerL}
 use Rattle.lone_solver.specs.declared.Answer.the-variants.{Solved as SolvedL, Refused as RefusedL}
 use Rattle.lone_solver.specs.Solve.{Outcome.outcome as outcomeL, solveOf}
 use Rattle.c_words.specs.declared.Told.{Told}
-use Rattle.c_values.specs.Settings.{settingsFrom}
+use Rattle.c_values.specs.Settings.{settings-words, settingsFrom}
 use Rattle.c_words.specs.Words.{pausedFrom, pausedWords, toldWords}
 use Rattle.c_answers.specs.Answers.{answerWords, keeps, toldOf, startedSaid, startedRecord, toldPredicted, toldSolved}
 use Rattle.c_answers.specs.Called.{Called, called, unread, countsIn}
@@ -37,31 +37,31 @@ use Rattle.c_api.specs.Calls.{scratchWordsOf, resumedAs, resumeWords, st
 -- ---- the words that are due
 
 abbrev pub Due : ℕ → ℕ → ℕ → Bool
-Due a b c = eqb a 8 && eqb b 16 && eqb c 7
+Due a b c = eqb a settings-words && eqb b 16 && eqb c 7
 
 pub record Lengths (a b c : ℕ) : Type 0 where
-  pub settings : a ≡ 8
+  pub settings : a ≡ settings-words
   pub paused : b ≡ 16
   pub answer : c ≡ 7
 
 pub lengths : (a b c : ℕ) → Due a b c ≡ true → Lengths a b c
 lengths a b c h =
-    let (l, r) = both-true (eqb a 8 && eqb b 16) (eqb c 7) h in
-    let (x, y) = both-true (eqb a 8) (eqb b 16) l in
-    record { settings = eqb-true a 8 x; paused = eqb-true b 16 y; answer = eqb-true c 7 r }
+    let (l, r) = both-true (eqb a settings-words && eqb b 16) (eqb c 7) h in
+    let (x, y) = both-true (eqb a settings-words) (eqb b 16) l in
+    record { settings = eqb-true a settings-words x; paused = eqb-true b 16 y; answer = eqb-true c 7 r }
 
 -- ---- the words of scratch
 
 module _ (n p : ℕ) (sw : List ℕ) where
-  pub scratch-not-due : (length sw ≡ 8 → ⊥) → 0 ≡ scratchWordsOf n p sw
+  pub scratch-not-due : (length sw ≡ settings-words → ⊥) → 0 ≡ scratchWordsOf n p sw
   unfolding scratchWordsOf
-  scratch-not-due h = rw (ne-eqb (length sw) 8 h)
+  scratch-not-due h = rw (ne-eqb (length sw) settings-words h)
 
-  pub scratch-due : {st : Settings} {r : ℕ} → length sw ≡ 8 → st ≡ settingsFrom sw → r ≡ scratchWords n p st → r ≡ scratchWordsOf n p sw
+  pub scratch-due : {st : Settings} {r : ℕ} → length sw ≡ settings-words → st ≡ settingsFrom sw → r ≡ scratchWords n p st → r ≡ scratchWordsOf n p sw
   unfolding scratchWordsOf
-  scratch-due h es e = rw (eq-eqb (length sw) 8 h, ← es) e
+  scratch-due h es e = rw (eq-eqb (length sw) settings-words h, ← es) e
 
--- ---- words of the wrong number
+-- ---- a wrong number of words
 
 abbrev beside : List ℕ → List Float → List Float → Called → Called
 beside pw w s (called k r a v m) = called k pw a w s
@@ -98,7 +98,7 @@ module _ (n p : ℕ) (x y : List Float) (sw pw : List ℕ) (s : List Float) (aw 
   start-not-due {c} q ec e = rw (q, ← ec) (others-kept (inSize n p) c aw pw [] s e)
 
   pub start-due : (r : Started) (s′ : List Float) {st : Settings} {pw′ aw′ : List ℕ} {t : Told} {c : Counts}
-      → Due (length sw) (length pw) (length aw) ≡ true → st ≡ settingsFrom sw → begun r s′ ≡ startOf n p x y st s
+      → Due (length sw) (length pw) (length aw) ≡ true → st ≡ settingsFrom sw → startOutcome r s′ ≡ startOf n p x y st s
       → pw′ ≡ startedRecord (saidS r) pw → t ≡ toldOf (startedSaid (saidS r)) → c ≡ countsBack none → aw′ ≡ toldWords t c
       → called (t .number) pw′ aw′ [] s′ ≡ startWords n p x y sw pw s aw
   unfolding startWords startedAs answerWords

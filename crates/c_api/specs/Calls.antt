@@ -8,7 +8,7 @@ use lib.ListN.{length}
 use lib.Ieee.{Float}
 use Rattle.pause.specs.Parts.{none}
 use Rattle.records.specs.Record.{countsBack}
-use Rattle.elastic_net.specs.ElasticNet.{Outcome, Begun, resumeOf, startOf}
+use Rattle.elastic_net.specs.ElasticNet.{Outcome, StartOutcome, resumeOf, startOf}
 use Rattle.refusal.specs.declared.Refusal.{Refusal}
 use Rattle.refusal.specs.Refusal.{numberOf, placeOf}
 use Rattle.refusal.specs.Sizes.{inSize}
@@ -18,16 +18,16 @@ use Rattle.prediction.specs.Predict.{Outcome as OutcomeP, Outcome.outcome as ou
 use Rattle.lone_solver.specs.declared.Answer.the-variants.{Solved as SolvedL, Refused as RefusedL}
 use Rattle.lone_solver.specs.Solve.{Outcome as OutcomeL, Outcome.outcome as outcomeL, solveOf}
 use Rattle.c_values.specs.Values.{bits}
-use Rattle.c_values.specs.Settings.{settingsFrom}
+use Rattle.c_values.specs.Settings.{settings-words, settingsFrom}
 use Rattle.c_words.specs.Words.{pausedFrom, pausedWords}
 use Rattle.c_answers.specs.Answers.{numberIn, answerWords, keeps, startedSaid, startedRecord}
 use Rattle.c_answers.specs.Called.{Called, called, unread, countsIn}
 
--- ---- the words of scratch that a fit needs: 0 where a size or a setting is out of range, or the settings have not their 8 words
+-- ---- the words of scratch that a fit needs: 0 where a size or a setting is out of range, or the settings have not their words
 
 -- n, p, settings
 unfoldable pub scratchWordsOf : ℕ → ℕ → List ℕ → ℕ
-scratchWordsOf n p sw = cond (eqb (length sw) 8) (scratchWords n p (settingsFrom sw)) 0
+scratchWordsOf n p sw = cond (eqb (length sw) settings-words) (scratchWords n p (settingsFrom sw)) 0
 
 -- ---- a resuming call
 
@@ -39,13 +39,13 @@ resumedAs rw b o =
 -- n, p, matrix, targets, settings, record, scratch, weights, budget, answer
 unfoldable pub resumeWords : ℕ → ℕ → List Float → List Float → List ℕ → List ℕ → List Float → List Float → ℕ → List ℕ → Called
 resumeWords n p x y sw rw s w b aw =
-    cond (eqb (length sw) 8 && eqb (length rw) 16 && eqb (length aw) 7)
+    cond (eqb (length sw) settings-words && eqb (length rw) 16 && eqb (length aw) 7)
     (resumedAs rw b (resumeOf n p x y (settingsFrom sw) (pausedFrom rw) s w b))
     (unread (inSize n p) (countsIn rw) rw aw w s)
 
 -- ---- a start
 
-unfoldable pub startedAs : List ℕ → Begun → Called
+unfoldable pub startedAs : List ℕ → StartOutcome → Called
 startedAs rw o =
     let a = startedSaid (o .answer) in
     called (numberIn a) (startedRecord (o .answer) rw) (answerWords a (countsBack none)) [] (o .scratch)
@@ -53,7 +53,7 @@ startedAs rw o =
 -- n, p, matrix, targets, settings, record, scratch, answer
 unfoldable pub startWords : ℕ → ℕ → List Float → List Float → List ℕ → List ℕ → List Float → List ℕ → Called
 startWords n p x y sw rw s aw =
-    cond (eqb (length sw) 8 && eqb (length rw) 16 && eqb (length aw) 7)
+    cond (eqb (length sw) settings-words && eqb (length rw) 16 && eqb (length aw) 7)
     (startedAs rw (startOf n p x y (settingsFrom sw) s))
     (unread (inSize n p) (countsBack none) rw aw [] s)
 

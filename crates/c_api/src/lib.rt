@@ -1,6 +1,6 @@
 // The calls for C and Rust: plain numbers and slices (in C a pointer and a length), with settings, record and answer as words
 // (crates c_values and c_words say which).
-// Each but the first returns the number of the refusal, 0 where there is none. Words of the wrong number are refused with 2, as any slice is: after 1.
+// Each but the first returns the number of the refusal, 0 where there is none. A wrong number of words is refused with 2, as any slice's length is: after 1.
 // An answer that has its 7 words is written with every refusal.
 use c_answers::counts_in;
 use c_answers::due;
@@ -12,6 +12,7 @@ use c_answers::started;
 use c_answers::words_refused;
 use c_answers::write_resumed;
 use c_answers::write_started;
+use c_values::SETTINGS_WORDS;
 use c_values::settings_from;
 use c_words::paused_from;
 use c_words::write_answer;
@@ -24,12 +25,12 @@ use records::no_counts;
 use refusal::number;
 ghost use Rattle.c_api.specs.Calls.{ScratchCall, StartCall, ResumeCall, PredictCall, SolveCall};
 
-// The words of scratch that a fit needs: no refusal but 0, also where the settings have not their 8 words.
+// The words of scratch that a fit needs: no refusal but 0, also where the settings have not their words.
 #[no_mangle]
 pub extern "C" fn xangoravit_scratch_words(n: usize, p: usize, settings: &[u64]) -> usize
     ensures { λ r. ⌜ ScratchCall n p (now (settings .entry)) r ⌝ }
 {
-    if settings.len() != 8 {
+    if settings.len() != SETTINGS_WORDS {
         return 0;
     }
     scratch_words(n, p, settings_from(settings))

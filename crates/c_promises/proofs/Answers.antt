@@ -30,7 +30,7 @@ use Rattle.elastic_net.specs.declared.Answer.the-variants.{Pending, Done, Refus
 use Rattle.elastic_net.specs.declared.Resumed.{Resumed}
 use Rattle.elastic_net.specs.declared.Started.{Started}
 use Rattle.elastic_net.specs.declared.Started.the-variants.{Ready as ReadyS, Refused as RefusedS}
-use Rattle.elastic_net.specs.ElasticNet.{Said, said, Outcome, endOutcome, ending, shown, byCheck, resumeOf, SaidS, saidS, Begun, byStartCheck, startOf}
+use Rattle.elastic_net.specs.ElasticNet.{Said, said, Outcome, endOutcome, ending, shown, byCheck, resumeOf, SaidS, saidS, StartOutcome, byStartCheck, startOf}
 use Rattle.promises.specs.Chain.{Starts, Resumes}
 use Rattle.promises.proofs.Calls.{partsOf}
 
@@ -54,7 +54,7 @@ record AnsweredS (t : SaidS) : Type 0 where
   answer : Started
   is : saidS answer ≡ t
 
-by-start-check : (k : Checked) (s : List Float) (o : Begun) → AnsweredS (o .answer) → AnsweredS (byStartCheck k s o .answer)
+by-start-check : (k : Checked) (s : List Float) (o : StartOutcome) → AnsweredS (o .answer) → AnsweredS (byStartCheck k s o .answer)
 by-start-check Fine s o h = h
 by-start-check (Bad r) s o h = record { answer = RefusedS r; is = refl }
 
@@ -64,8 +64,8 @@ module _ (n p : ℕ) (x y : List Float) (st : Settings) where
   answered a s w b =
       let sh = sizesOf n p st in
       by-check (limitsOf n p (length x) (length y) (length w) st (length s)) a w s _
-      (by-check (cond (possibleOf (st .rounds) a) Fine (Bad Record)) a w s _
-      (shown-answered sh (st .normalise) (termsOf st n .gamma) y (rest sh s) w (call (partsOf n p x st) (st .rounds) b (stateOf a (vars sh s)))))
+      (by-check (cond (possibleOf (st .«max_iter») a) Fine (Bad Record)) a w s _
+      (shown-answered sh (st .normalise) (termsOf st n .gamma) y (rest sh s) w (call (partsOf n p x st) (st .«max_iter») b (stateOf a (vars sh s)))))
 
   answeredS : (s : List Float) → AnsweredS (startOf n p x y st s .answer)
   unfolding startOf

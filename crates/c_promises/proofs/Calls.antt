@@ -4,17 +4,17 @@ use native.Mathlib.Omega.{arith}
 use mathlib.Core.Path.{_≡_, refl, ap, sym, _∙_}
 use mathlib.Core.Bool.{Bool, true, false, _&&_, cond}
 use mathlib.Core.List.{List, []}
-use lib.Dec.{T, eqb, ltb, ltb→lt}
+use lib.Dec.{eqb}
 use lib.ListN.{length}
 use lib.Ieee.{Float}
 use borrow.Author.Tests.{eq-eqb, eqb-true}
 use Rattle.refusal.specs.declared.Refusal.{Refusal}
-use Rattle.refusal.specs.declared.Refusal.the-variants.{Size, Length, Setting, Scratch, NotFinite, Constant, Search, Tolerance, Record, NoRounds, Version, SheetLength, Flags, Claim, Pair, TooLarge}
+use Rattle.refusal.specs.declared.Refusal.the-variants.{Size, Length}
 use Rattle.refusal.specs.declared.Checked.{Checked}
 use Rattle.refusal.specs.declared.Checked.the-variants.{Fine, Bad}
-use Rattle.refusal.specs.Refusal.{numberOf}
 use Rattle.refusal.specs.Sizes.{inSize}
 use Rattle.refusal.proofs.Asking.{both-true}
+use Rattle.refusal.proofs.Numbers.{not-0}
 use Rattle.settings.specs.declared.Settings.{Settings}
 use Rattle.layout.specs.Slots.{vars}
 use Rattle.layout.specs.Need.{sizesOf}
@@ -26,14 +26,14 @@ use Rattle.elastic_net.specs.declared.Answer.{Answer}
 use Rattle.elastic_net.specs.declared.Resumed.{Resumed}
 use Rattle.elastic_net.specs.declared.Started.{Started}
 use Rattle.elastic_net.specs.declared.Started.the-variants.{Ready as ReadyS, Refused as RefusedS}
-use Rattle.elastic_net.specs.ElasticNet.{Said, pending, converged, limit, refused, said, Outcome, outcome, endOutcome, ending, shown, resumeOf, Begun, begun, startOf}
+use Rattle.elastic_net.specs.ElasticNet.{Said, pending, converged, limit, refused, said, Outcome, outcome, endOutcome, ending, shown, resumeOf, StartOutcome, startOutcome, startOf}
 use Rattle.promises.specs.Chain.{Starts, Resumes}
 use Rattle.promises.specs.Refused.{resumeCheck, Unchanged}
 use Rattle.promises.proofs.Refused.{resume-refused, resume-accepted}
 use Rattle.promises.proofs.Calls.{partsOf}
 use Rattle.promises.proofs.Corners.{budget-0}
 use Rattle.c_values.specs.Values.{word}
-use Rattle.c_values.specs.Settings.{settingsFrom}
+use Rattle.c_values.specs.Settings.{settings-words, settingsFrom}
 use Rattle.c_words.specs.Words.{pausedFrom, pausedWords}
 use Rattle.c_words.proofs.Words.{read-fits}
 use Rattle.c_answers.specs.Answers.{kindOf, answerWords, keeps}
@@ -52,9 +52,9 @@ module _ (n p : ℕ) (x y : List Float) (st : Settings) (a : Paused) (s w : List
     told : {g : Answer} → Unchanged a s w r w′ s′ g → (r .paused ≡ a) × (w′ ≡ w) × (s′ ≡ s)
     told u = (u .paused, u .weights, u .scratch)
 
-    run : (o : Bool) → resumeCheck n p x y st a s w ≡ Fine → spentAt (st .rounds) a ≡ o → (r .paused ≡ a) × (w′ ≡ w) × (s′ ≡ s)
+    run : (o : Bool) → resumeCheck n p x y st a s w ≡ Fine → spentAt (st .«max_iter») a ≡ o → (r .paused ≡ a) × (w′ ≡ w) × (s′ ≡ s)
     run true e o =
-        let i = rw (spent-over (st .rounds) a (partsOf n p x st) o 0 (vars (sizesOf n p st) s)) at (resume-accepted n p x y st a s w 0 r w′ s′ c e) in
+        let i = rw (spent-over (st .«max_iter») a (partsOf n p x st) o 0 (vars (sizesOf n p st) s)) at (resume-accepted n p x y st a s w 0 r w′ s′ c e) in
         let j = ap (λ (t : Outcome). t .answer) i in
         let z : _≡_ {A = ℕ} 0 1 = cc in
         absurd (omega arith)
@@ -62,7 +62,7 @@ module _ (n p : ℕ) (x y : List Float) (st : Settings) (a : Paused) (s w : List
 
     go : (k : Checked) → resumeCheck n p x y st a s w ≡ k → (r .paused ≡ a) × (w′ ≡ w) × (s′ ≡ s)
     go (Bad q) e = told (resume-refused n p x y st a s w 0 r w′ s′ c q e)
-    go Fine e = run (spentAt (st .rounds) a) e refl
+    go Fine e = run (spentAt (st .«max_iter») a) e refl
 
 -- ---- what the words say
 
@@ -71,28 +71,6 @@ kind-pending pending h = refl
 kind-pending (converged b c) h = absurd (omega arith)
 kind-pending (limit b c) h = absurd (omega arith)
 kind-pending (refused k i) h = absurd (omega arith)
-
-numbered : (r : Refusal) → T (ltb 0 (numberOf r))
-numbered Size = tt
-numbered Length = tt
-numbered Setting = tt
-numbered Scratch = tt
-numbered (NotFinite i) = tt
-numbered (Constant j) = tt
-numbered Search = tt
-numbered Tolerance = tt
-numbered Record = tt
-numbered NoRounds = tt
-numbered Version = tt
-numbered SheetLength = tt
-numbered Flags = tt
-numbered (Claim i) = tt
-numbered (Pair i) = tt
-numbered TooLarge = tt
-
--- a refusal's number is not 0
-not-0 : (r : Refusal) → 0 ≡ numberOf r → ⊥
-not-0 r e = let l = ltb→lt 0 (numberOf r) (numbered r) in omega arith
 
 long-record : (a : Paused) → length (pausedWords a) ≡ 16
 unfolding pausedWords
@@ -103,44 +81,44 @@ long-record a = refl
 module _ (n p : ℕ) (x y : List Float) (sw pw : List ℕ) (s : List Float) (aw pw′ aw′ : List ℕ) (s′ : List Float) (c : StartCall n p x y sw pw s aw 0 pw′ aw′ s′) where
   -- the settings had their words, and the record that it made is what its words say
   pub record Began : Type 0 where
-    pub settings : length sw ≡ 8
+    pub settings : length sw ≡ settings-words
     pub paused : Paused
     pub starts : Starts n p x y (settingsFrom sw) s (ReadyS paused) s′
     pub back : pausedFrom pw′ ≡ paused
     pub long : length pw′ ≡ 16
 
   record Due : Type 0 where
-    settings : length sw ≡ 8
+    settings : length sw ≡ settings-words
     is : called 0 pw′ aw′ [] s′ ≡ startedAs pw (startOf n p x y (settingsFrom sw) s)
 
   due : Due
   unfolding startWords unread
-  due = go (eqb (length sw) 8 && eqb (length pw) 16 && eqb (length aw) 7) refl where
-    go : (b : Bool) → (eqb (length sw) 8 && eqb (length pw) 16 && eqb (length aw) 7) ≡ b → Due
+  due = go (eqb (length sw) settings-words && eqb (length pw) 16 && eqb (length aw) 7) refl where
+    go : (b : Bool) → (eqb (length sw) settings-words && eqb (length pw) 16 && eqb (length aw) 7) ≡ b → Due
     go true q =
-        let (l, r) = both-true (eqb (length sw) 8 && eqb (length pw) 16) (eqb (length aw) 7) q in
-        record { settings = eqb-true _ _ (both-true (eqb (length sw) 8) (eqb (length pw) 16) l .0); is = rw q at c }
+        let (l, r) = both-true (eqb (length sw) settings-words && eqb (length pw) 16) (eqb (length aw) 7) q in
+        record { settings = eqb-true _ _ (both-true (eqb (length sw) settings-words) (eqb (length pw) 16) l .0); is = rw q at c }
     go false q =
         let d = rw q at c in
         absurd (not-0 (cond (inSize n p) Length Size) (cc))
 
-  module _ (o : Begun) (is : called 0 pw′ aw′ [] s′ ≡ startedAs pw o) (s₂ : List Float) where
-    ready-words : (a : Paused) → begun (ReadyS a) s₂ ≡ o → (pw′ ≡ pausedWords a) × (s′ ≡ s₂)
+  module _ (o : StartOutcome) (is : called 0 pw′ aw′ [] s′ ≡ startedAs pw o) (s₂ : List Float) where
+    ready-words : (a : Paused) → startOutcome (ReadyS a) s₂ ≡ o → (pw′ ≡ pausedWords a) × (s′ ≡ s₂)
     unfolding startedAs
     ready-words a e = let d = rw (← e) at is in (cc, cc)
 
-    not-refused : (r : Refusal) → begun (RefusedS r) s₂ ≡ o → ⊥
+    not-refused : (r : Refusal) → startOutcome (RefusedS r) s₂ ≡ o → ⊥
     unfolding startedAs
     not-refused r e = let d = rw (← e) at is in not-0 r (cc)
 
   pub began : Began
   began = go (starting n p x y (settingsFrom sw) s .result) refl where
-    o : Begun
+    o : StartOutcome
     o = startOf n p x y (settingsFrom sw) s
 
     go : (t : Started) → starting n p x y (settingsFrom sw) s .result ≡ t → Began
     go (ReadyS a) e =
-        let k : begun (ReadyS a) (o .scratch) ≡ o = rw e at (starting n p x y (settingsFrom sw) s .allowed) in
+        let k : startOutcome (ReadyS a) (o .scratch) ≡ o = rw e at (starting n p x y (settingsFrom sw) s .allowed) in
         let (hp, hs) = ready-words o (due .is) (o .scratch) a k in
         let h : Starts n p x y (settingsFrom sw) s (ReadyS a) s′ = rw hs k in
         record {
@@ -154,7 +132,7 @@ module _ (n p : ℕ) (x y : List Float) (sw pw : List ℕ) (s : List Float) (aw 
 
 -- ---- a resuming call
 
-module _ (n p : ℕ) (x y : List Float) (sw pw : List ℕ) (s : List Float) (aw : List ℕ) (ls : length sw ≡ 8) (lp : length pw ≡ 16) (la : length aw ≡ 7)
+module _ (n p : ℕ) (x y : List Float) (sw pw : List ℕ) (s : List Float) (aw : List ℕ) (ls : length sw ≡ settings-words) (lp : length pw ≡ 16) (la : length aw ≡ 7)
     (w : List Float) (b r : ℕ) (pw′ aw′ : List ℕ) (w′ s′ : List Float) (c : ResumeCall n p x y sw pw s w b aw r pw′ aw′ w′ s′) where
   -- the call of `resume` that it makes
   pub record Went : Type 0 where
@@ -164,7 +142,7 @@ module _ (n p : ℕ) (x y : List Float) (sw pw : List ℕ) (s : List Float) (aw 
 
   resume-due : called r pw′ aw′ w′ s′ ≡ resumedAs pw b (resumeOf n p x y (settingsFrom sw) (pausedFrom pw) s w b)
   unfolding resumeWords
-  resume-due = rw (eq-eqb (length sw) 8 ls, eq-eqb (length pw) 16 lp, eq-eqb (length aw) 7 la) at c
+  resume-due = rw (eq-eqb (length sw) settings-words ls, eq-eqb (length pw) 16 lp, eq-eqb (length aw) 7 la) at c
 
   left-as : (o : Outcome) → called r pw′ aw′ w′ s′ ≡ resumedAs pw b o → (w′ ≡ o .weights) × (s′ ≡ o .scratch)
   unfolding resumedAs
@@ -212,7 +190,7 @@ module _ (n p : ℕ) (x y : List Float) (sw pw : List ℕ) (s : List Float) (aw 
           record { back = rw new again; long = rw new (long-record (g .result .paused)) }
 
 -- BUDGET 0 OVER WORDS: a pending call leaves the record's words, the weights and the scratch as they were, whatever they are
-pub words-budget-0 : (n p : ℕ) (x y : List Float) (sw pw : List ℕ) (s : List Float) (aw : List ℕ) → length sw ≡ 8 → length pw ≡ 16 → length aw ≡ 7
+pub words-budget-0 : (n p : ℕ) (x y : List Float) (sw pw : List ℕ) (s : List Float) (aw : List ℕ) → length sw ≡ settings-words → length pw ≡ 16 → length aw ≡ 7
     → (w : List Float) (r : ℕ) (pw′ aw′ : List ℕ) (w′ s′ : List Float) → ResumeCall n p x y sw pw s w 0 aw r pw′ aw′ w′ s′ → word aw′ 0 ≡ 0
     → (pw′ ≡ pw) × (w′ ≡ w) × (s′ ≡ s)
 words-budget-0 n p x y sw pw s aw ls lp la w r pw′ aw′ w′ s′ c q =

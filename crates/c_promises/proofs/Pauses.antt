@@ -6,7 +6,7 @@ use mathlib.Core.List.{List, _∷_}
 use lib.ListN.{length}
 use lib.Ieee.{Float}
 use Rattle.refusal.specs.declared.Failure.{Failure}
-use Rattle.refusal.specs.declared.Failure.the-variants.{Search, Tolerance}
+use Rattle.refusal.proofs.Numbers.{failures-end}
 use Rattle.settings.specs.Settings.{termsOf}
 use Rattle.layout.specs.declared.Sizes.{Sizes}
 use Rattle.layout.specs.Slots.{rest}
@@ -23,14 +23,14 @@ use Rattle.unbroken_fit.specs.Unbroken.{fitOf}
 use Rattle.promises.specs.Chain.{Starts, Chain, last as lastC, more as moreC, Enough}
 use Rattle.promises.specs.Outcome.{outcomeOf}
 use Rattle.promises.proofs.Pauses.{pause-theorem, pauses-end-as-the-rust}
-use Rattle.c_values.specs.Settings.{settingsFrom}
+use Rattle.c_values.specs.Settings.{settings-words, settingsFrom}
 use Rattle.c_words.specs.Words.{pausedFrom}
 use Rattle.c_answers.specs.Called.{Called, called}
 use Rattle.c_api.specs.Calls.{StartCall, resumedAs}
 use Rattle.c_promises.specs.WordChain.{WordChain, last, more, endWords}
 use Rattle.c_promises.proofs.Calls.{began, Went, went, word-pending, pending-word, pending-reads}
 
-module _ (n p : ℕ) (x y : List Float) (sw : List ℕ) (ls : length sw ≡ 8) where
+module _ (n p : ℕ) (x y : List Float) (sw : List ℕ) (ls : length sw ≡ settings-words) where
   -- calls of `resume`, of the last of which z is the words: `before` were the record's ahead of it, and `given` was its budget
   pub record AsCalls (bs : List ℕ) (a : Paused) (s : List Float) (z : Called) (w′ s′ : List Float) : Type 0 where
     pub result : Resumed
@@ -78,8 +78,7 @@ end-written : (sh : Sizes) (normalise : Bool) (gamma : Float) (ys e : List Float
 unfolding resumedAs endWords ending endOutcome howOf
 end-written sh normalise gamma ys e (end converged c d) pw b = refl
 end-written sh normalise gamma ys e (end limit c d) pw b = refl
-end-written sh normalise gamma ys e (end (failed Search) c d) pw b = refl
-end-written sh normalise gamma ys e (end (failed Tolerance) c d) pw b = refl
+end-written sh normalise gamma ys e (end (failed f) c d) pw b = rw (failures-end f)
 
 module _ (n p : ℕ) (x y : List Float) (sw pw : List ℕ) (s : List Float) (aw pw₁ aw₁ : List ℕ) (s₁ : List Float) (h : StartCall n p x y sw pw s aw 0 pw₁ aw₁ s₁) where
   -- calls of `start` and `resume` that end a fit, and that calls over words return and leave the words of
@@ -91,7 +90,7 @@ module _ (n p : ℕ) (x y : List Float) (sw pw : List ℕ) (s : List Float) (aw 
     pub says : z ≡ endWords (outcome result w s₂)
 
   -- AFTER A START THAT RETURNS 0, calls over words whose budgets add up to 5,100·M at least are such calls
-  pub words-end : (b : ℕ) (bs : List ℕ) → Enough (settingsFrom sw .rounds) (b ∷ bs)
+  pub words-end : (b : ℕ) (bs : List ℕ) → Enough (settingsFrom sw .«max_iter») (b ∷ bs)
       → (r : ℕ) (pw₂ aw₂ : List ℕ) (w s₂ : List Float) → WordChain n p x y sw (b ∷ bs) pw₁ s₁ r pw₂ aw₂ w s₂
       → EndsWith (b ∷ bs) (called r pw₂ aw₂ w s₂) w s₂
   words-end b bs enough r pw₂ aw₂ w s₂ c =
@@ -109,7 +108,7 @@ module _ (n p : ℕ) (x y : List Float) (sw pw : List ℕ) (s : List Float) (aw 
       }
 
   -- CONDITION 3 OVER WORDS: they end as smartcore's fit, in words
-  pub words-end-as-the-rust : (b : ℕ) (bs : List ℕ) → Enough (settingsFrom sw .rounds) (b ∷ bs)
+  pub words-end-as-the-rust : (b : ℕ) (bs : List ℕ) → Enough (settingsFrom sw .«max_iter») (b ∷ bs)
       → (r : ℕ) (pw₂ aw₂ : List ℕ) (w s₂ : List Float) → WordChain n p x y sw (b ∷ bs) pw₁ s₁ r pw₂ aw₂ w s₂
       → called r pw₂ aw₂ w s₂
       ≡ endWords (outcomeOf (sizesOf n p (settingsFrom sw)) (rest (sizesOf n p (settingsFrom sw)) s) (fit n p x y (settingsFrom sw)))

@@ -15,7 +15,7 @@ settingsFrom w = record {
   alpha = f64 (word w 0);
   «l1_ratio» = f64 (word w 1);
   tol = f64 (word w 2);
-  rounds = word w 3;
+  «max_iter» = word w 3;
   «panel_rows» = word w 4;
   «panel_cols» = word w 5;
   normalise = truth (word w 6);
@@ -24,5 +24,5 @@ settingsFrom w = record {
 
 unfoldable pub settingsWords : Settings → List ℕ
 settingsWords st =
-    bits (st .alpha) ∷ bits (st .«l1_ratio») ∷ bits (st .tol) ∷ st .rounds ∷ st .«panel_rows» ∷ st .«panel_cols»
+    bits (st .alpha) ∷ bits (st .«l1_ratio») ∷ bits (st .tol) ∷ st .«max_iter» ∷ st .«panel_rows» ∷ st .«panel_cols»
     ∷ truthWord (st .normalise) ∷ truthWord (st .lazy) ∷ []

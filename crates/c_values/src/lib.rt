@@ -52,7 +52,7 @@ pub fn settings_from(w: &[u64]) -> Settings
         alpha: f.0,
         l1_ratio: f.1,
         tol: f.2,
-        rounds: w[3],
+        max_iter: w[3],
         panel_rows: w[4] as usize,
         panel_cols: w[5] as usize,
         normalise,
@@ -66,7 +66,7 @@ pub fn write_settings(st: Settings, out: &mut [u64])
     ensures { λ _. ⌜ now (out .exit) ≡ settingsWords st ⌝ }
 {
     write_floats(Floats(st.alpha, st.l1_ratio, st.tol), out, 0);
-    out[3] = st.rounds;
+    out[3] = st.max_iter;
     out[4] = st.panel_rows as u64;
     out[5] = st.panel_cols as u64;
     out[6] = truth_word(st.normalise);

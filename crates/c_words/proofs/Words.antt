@@ -31,7 +31,7 @@ record-round-trip a h =
       ofBits-toBits binary64 (v .t) (h .t),
       ofBits-toBits binary64 (v .s) (h .s),
       ofBits-toBits binary64 (v .dual) (h .dual),
-      ofBits-toBits binary64 (v .tol) (h .tol),
+      ofBits-toBits binary64 (v .pcgtol) (h .pcgtol),
       ofBits-toBits binary64 (v .bnrm) (h .bnrm),
       ofBits-toBits binary64 (v .bkden) (h .bkden),
       ofBits-toBits binary64 (v .error) (h .error),
@@ -47,7 +47,7 @@ read-fits w = record {
   t = ofBits-fits binary64 (word w 6);
   s = ofBits-fits binary64 (word w 7);
   dual = ofBits-fits binary64 (word w 8);
-  tol = ofBits-fits binary64 (word w 9);
+  pcgtol = ofBits-fits binary64 (word w 9);
   bnrm = ofBits-fits binary64 (word w 10);
   bkden = ofBits-fits binary64 (word w 11);
   error = ofBits-fits binary64 (word w 12);

@@ -35,7 +35,7 @@ scalarsFrom w = record {
   t = f64 (word w 6);
   s = f64 (word w 7);
   dual = f64 (word w 8);
-  tol = f64 (word w 9);
+  pcgtol = f64 (word w 9);
   bnrm = f64 (word w 10);
   bkden = f64 (word w 11);
   error = f64 (word w 12);
@@ -55,7 +55,7 @@ pausedFrom w = record {
 
 abbrev pub scalarsWords : Scalars → List ℕ
 scalarsWords v =
-    bits (v .t) ∷ bits (v .s) ∷ bits (v .dual) ∷ bits (v .tol) ∷ bits (v .bnrm) ∷ bits (v .bkden) ∷ bits (v .error) ∷ bits (v .phi) ∷ bits (v .gdx)
+    bits (v .t) ∷ bits (v .s) ∷ bits (v .dual) ∷ bits (v .pcgtol) ∷ bits (v .bnrm) ∷ bits (v .bkden) ∷ bits (v .error) ∷ bits (v .phi) ∷ bits (v .gdx)
     ∷ truthWord (v .missed) ∷ []
 
 unfoldable pub pausedWords : Paused → List ℕ

@@ -43,7 +43,7 @@ fn scalars_from(w: &[u64]) -> Scalars
         t: a.0,
         s: a.1,
         dual: a.2,
-        tol: b.0,
+        pcgtol: b.0,
         bnrm: b.1,
         bkden: b.2,
         error: c.0,
@@ -101,7 +101,7 @@ fn write_scalars(a: Scalars, out: &mut [u64])
     ensures { λ _. ⌜ now (out .exit) ≡ sets (now (out .entry)) 6 (scalarsWords a) ⌝ }
 {
     write_floats(Floats(a.t, a.s, a.dual), out, 6);
-    write_floats(Floats(a.tol, a.bnrm, a.bkden), out, 9);
+    write_floats(Floats(a.pcgtol, a.bnrm, a.bkden), out, 9);
     write_floats(Floats(a.error, a.phi, a.gdx), out, 12);
     out[15] = truth_word(a.missed);
 }

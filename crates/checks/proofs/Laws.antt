@@ -16,6 +16,7 @@ use Rattle.refusal.specs.declared.Checked.{Checked}
 use Rattle.refusal.specs.declared.Checked.the-variants.{Fine}
 use Rattle.refusal.specs.Checks.{ask}
 use Rattle.refusal.proofs.Asking.{both-true, ask-fine}
+use Rattle.refusal.proofs.Scanning.{opposed}
 use Rattle.refusal.specs.Sizes.{inSize}
 use Rattle.refusal.proofs.Sizes.{size-of}
 use Rattle.checks.specs.Checks.{limitsOf, Accepted}
@@ -64,16 +65,16 @@ module _ (n p : ℕ) (st : Settings) {sh : Sizes} (e : sh ≡ sizesOf n p st) wh
   pub need-told : {k : ℕ} → k ≡ words sh → k ≡ needOf n p st
   need-told h = h ∙ ap words e ∙ need-agrees n p st
 
--- the sizes of a fit; the stored design has no row or all
+-- the sizes of a fit; a stored design has all its rows
 pub record SizesAre (n p : ℕ) (sh : Sizes) : Type 0 where
   pub rows : sh .n ≡ n
   pub columns : sh .p ≡ p
   pub all : sh .k ≡ n + p
-  pub stored : (sh .rows ≡ 0 → ⊥) → sh .rows ≡ sh .k
+  pub stored : sh .lazy ≡ false → sh .stored ≡ sh .k
 
 pub sizes-known : (n p : ℕ) (st : Settings) → SizesAre n p (sizesOf n p st)
 unfolding sizesOf
 sizes-known n p st = go (st .lazy) refl where
   go : (b : Bool) → st .lazy ≡ b → SizesAre n p (sizesOf n p st)
-  go true q = rw q (record { rows = refl; columns = refl; all = refl; stored = λ h. absurd (h refl) })
+  go true q = rw q (record { rows = refl; columns = refl; all = refl; stored = λ h. absurd (opposed true h refl) })
   go false q = rw q (record { rows = refl; columns = refl; all = refl; stored = λ h. refl })

@@ -32,6 +32,6 @@ module _ (n p : ℕ) (x y : List Float) (st : Settings) (a : Ends) (h : Fits n p
       rw (h .lambda) at (start-accepted n p x y st s o s₁ c fine .0)
 
   -- and calls after it whose budgets suffice leave the row's end
-  pub calls-end : (k : Paused) (s₁ : List Float) → Starts n p x y st s (Ready k) s₁ → (b : ℕ) (bs : List ℕ) → Enough (st .rounds) (b ∷ bs)
+  pub calls-end : (k : Paused) (s₁ : List Float) → Starts n p x y st s (Ready k) s₁ → (b : ℕ) (bs : List ℕ) → Enough (st .«max_iter») (b ∷ bs)
       → (r : Resumed) (w s₂ : List Float) → Chain n p x y st (b ∷ bs) k s₁ r w s₂ → outcome r w s₂ ≡ endOf n p st a (rest (sizesOf n p st) s)
   calls-end k s₁ c b bs enough r w s₂ g = pauses-end-as-the-rust n p x y st s s₁ k c b bs enough r w s₂ g ∙ h .ends (rest (sizesOf n p st) s)

@@ -28,7 +28,7 @@ pub record Input : Type 0 where
   pub alpha : ℕ
   pub ratio : ℕ
   pub tol : ℕ
-  pub rounds : ℕ
+  pub maxIter : ℕ
   pub matrix : List ℕ
   pub targets : List ℕ
 
@@ -59,7 +59,7 @@ settingsOf i R C = record {
   alpha = f64 (i .alpha);
   «l1_ratio» = f64 (i .ratio);
   tol = f64 (i .tol);
-  rounds = i .rounds;
+  «max_iter» = i .maxIter;
   «panel_rows» = R;
   «panel_cols» = C;
   normalise = false;
@@ -115,7 +115,7 @@ two-rows M scores = record {
   alpha = 0x3ff0_0000_0000_0000;
   ratio = 0x3ff0_0000_0000_0000;
   tol = 0x3fe0_0000_0000_0000;
-  rounds = M;
+  maxIter = M;
   matrix = 0x3ff0_0000_0000_0000 ∷ 0x4000_0000_0000_0000 ∷ [];
   targets = scores;
 }

@@ -1,12 +1,10 @@
 -- The statistics have an element to each column, and a product with the design one to each row or each column, in either mode; and what holds of a memory holds
 -- of every one that is as long. Assumes nothing.
-use mathlib.Core.Path.{_≡_, sym}
+use mathlib.Core.Path.{_≡_, refl, sym}
 use mathlib.Core.Bool.{Bool, true, false}
 use mathlib.Core.List.{List}
 use Prim.Native.Nat.{ℕ, _+_}
-use native.Mathlib.Decide.{ℕ-discrete}
 use native.Mathlib.Omega.{arith}
-use borrow.Author.Tests.{eq-eqb, ne-eqb}
 use lib.ListN.{length, length-append}
 use lib.Ieee.{Float}
 use Rattle.arrays.proofs.Part.{length-tab}
@@ -31,13 +29,13 @@ length-scales true m n p = length-tab _ p
 length-scales false m n p = length-fill _ p
 
 -- of the sizes alone
-pub length-matvec-of : (sh : Sizes) → sh .k ≡ sh .n + sh .p → ((sh .rows ≡ 0 → ⊥) → sh .rows ≡ sh .k) → (t : Terms) (m : List Float) (v : Store) (xs : List Float)
+pub length-matvec-of : (sh : Sizes) → sh .k ≡ sh .n + sh .p → (sh .lazy ≡ false → sh .stored ≡ sh .k) → (t : Terms) (m : List Float) (v : Store) (xs : List Float)
     → length (matvecOf sh t m v xs) ≡ sh .k
 unfolding matvecOf lazyRows
-length-matvec-of sh all stored t m v xs = go (ℕ-discrete (sh .rows) 0) where
-  go : Dec (sh .rows ≡ 0) → length (matvecOf sh t m v xs) ≡ sh .k
-  go (yes z) = rw (eq-eqb (sh .rows) 0 z, length-append, length-tab _ (sh .n), length-tab _ (sh .p)) (sym all)
-  go (no z) = rw (ne-eqb (sh .rows) 0 z, length-rows) (stored z)
+length-matvec-of sh all stored t m v xs = go (sh .lazy) refl where
+  go : (b : Bool) → sh .lazy ≡ b → length (matvecOf sh t m v xs) ≡ sh .k
+  go true z = rw (z, length-append, length-tab _ (sh .n), length-tab _ (sh .p)) (sym all)
+  go false z = rw (z, length-rows) (stored z)
 
 pub length-matvec : {sh : Sizes} {l : Places} {m s : List Float} → Held sh l m s → (t : Terms) (v : Store) (xs : List Float)
     → length (matvecOf sh t m v xs) ≡ sh .k
@@ -45,10 +43,10 @@ length-matvec {sh} {l} {m} h t v xs = length-matvec-of sh (h .all) (h .stored) t
 
 pub length-transposed : (sh : Sizes) (t : Terms) (m : List Float) (v : Store) (xs : List Float) → length (transposedOf sh t m v xs) ≡ sh .p
 unfolding transposedOf lazyColumns
-length-transposed sh t m v xs = go (ℕ-discrete (sh .rows) 0) where
-  go : Dec (sh .rows ≡ 0) → length (transposedOf sh t m v xs) ≡ sh .p
-  go (yes z) = rw (eq-eqb (sh .rows) 0 z, length-tab)
-  go (no z) = rw (ne-eqb (sh .rows) 0 z, length-columns)
+length-transposed sh t m v xs = go (sh .lazy) refl where
+  go : (b : Bool) → sh .lazy ≡ b → length (transposedOf sh t m v xs) ≡ sh .p
+  go true z = rw (z, length-tab)
+  go false z = rw (z, length-columns)
 
 pub held-on : {sh : Sizes} {l : Places} {m s s′ : List Float} → Held sh l m s → length s′ ≡ length s → Held sh l m s′
 held-on h e = record {

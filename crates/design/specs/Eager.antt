@@ -30,4 +30,4 @@ unfoldable pub gramOf : ℕ → ℕ → List Float → List Float
 gramOf k p d = grid (λ r c. products plus0 (λ i. d ! (i * p + r)) (λ i. d ! (i * p + c)) k) p p
 
 unfoldable pub gramStore : Sizes → Store → Store
-gramStore sh v = v ⟨ GRAM ≔ (λ u. gramOf (sh .rows) (sh .p) (u DESIGN)) ⟩
+gramStore sh v = v ⟨ GRAM ≔ (λ u. gramOf (sh .stored) (sh .p) (u DESIGN)) ⟩

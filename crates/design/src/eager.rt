@@ -18,7 +18,7 @@ ghost use Rattle.design.specs.Rows.{rowOf, diagonalAt, addedAt, Row, Mat
 // Writes the stored design: gamma times the matrix, normalised where that is asked, and p rows of padding below. Not for a lazy fit, whose slot is empty.
 pub fn augment(m: &[f64], sh: Sizes, normalise: bool, t: Terms, s: &mut [f64], l: Places)
     requires { ⌜ Given sh l (now m) (now s) ⌝ }
-    requires { ⌜ sh .rows ≡ sh .n + sh .p ⌝ }
+    requires { ⌜ sh .stored ≡ sh .n + sh .p ⌝ }
     ensures { λ _. ⌜ Makes sh (designStore sh normalise t (now (m .entry))) (now (s .entry)) (now (s .exit)) ⌝ }
 {
     let ce = l.centre;
@@ -125,7 +125,7 @@ pub fn gram(sh: Sizes, s: &mut [f64], l: Places)
     let p = sh.p;
     fill(s, g, p * p, 0.0);
     let mut at = l.design;
-    for i in 0..sh.rows {
+    for i in 0..sh.stored {
         add_products(s, g, p, at);
         at += p;
     }

@@ -17,11 +17,11 @@ pub fn matvec(m: &[f64], sh: Sizes, t: Terms, s: &mut [f64], l: Places, v: usize
     requires { ⌜ out + sh .k ≤ l .design ⌝ }
     ensures { λ _. ⌜ now (s .exit) ≡ put (now (s .entry)) out (matvecOf sh t (now (m .entry)) (vars sh (now (s .entry))) (part (now (s .entry)) v (sh .p))) ⌝ }
 {
-    if sh.rows == 0 {
+    if sh.lazy {
         lazy_normalization::rows(m, sh.n, sh.p, t, s, l, v, out);
         return;
     }
-    matrices::products::rows(s, l.design, sh.rows, sh.p, v, out);
+    matrices::products::rows(s, l.design, sh.stored, sh.p, v, out);
 }
 
 // The transposed design times the vector at v. Here v lies between the Gram and the stored design, and the output below the columns' numbers.
@@ -33,9 +33,9 @@ pub fn transposed(m: &[f64], sh: Sizes, t: Terms, s: &mut [f64], l: Places, v: u
     ensures { λ _. ⌜ now (s .exit)
         ≡ put (now (s .entry)) out (transposedOf sh t (now (m .entry)) (vars sh (now (s .entry))) (part (now (s .entry)) v (sh .k))) ⌝ }
 {
-    if sh.rows == 0 {
+    if sh.lazy {
         lazy_normalization::columns(m, sh.n, sh.p, t, s, l, v, out);
         return;
     }
-    matrices::products::columns(s, l.design, sh.rows, sh.p, v, out);
+    matrices::products::columns(s, l.design, sh.stored, sh.p, v, out);
 }

@@ -12,13 +12,13 @@ use Rattle.arrays.specs.Sums.{plus0}
 use Rattle.settings.specs.declared.Terms.{Terms}
 use Rattle.layout.specs.declared.Sizes.{Sizes}
 use Rattle.layout.specs.Slots.{Store}
-use Rattle.bg_solver.specs.Solver.{turned as roundTurned, errorOf}
+use Rattle.bg_solver.specs.Solver.{turned, errorOf}
 use Rattle.inner_solver.specs.Inner.{bnrmOf, roundOf, turnStore, turnError}
 use Rattle.newton.specs.Newton.{startT, nextT, tolerance}
 use Rattle.line_search.specs.Search.{largestOf, phiOf, decreases}
 use Rattle.pause.specs.Invariant.{OfOpened, OfTurned, OfTried, Keeps}
 use Rattle.lasso_optimizer.specs.declared.Scalars.{Scalars}
-use Rattle.lasso_optimizer.specs.Data.{Data, held, opened, turned}
+use Rattle.lasso_optimizer.specs.Data.{Data, held, opened, withRound}
 use Rattle.lasso_optimizer.specs.Opening.{gapStore, gapOf, dualOf, newtonStore, pcgtolOf, readyBy, openBy, opens}
 use Rattle.lasso_optimizer.specs.Solving.{turnTo, turns, gdxOf, phiAt, aimBy, aim}
 use Rattle.lasso_optimizer.specs.Trial.{halved, movedStore, newzStore, newphiOf, decideBy, tryBy, tries}
@@ -29,12 +29,12 @@ use Rattle.doubles.proofs.Values.{maximum-double, minimum-double, dot-d
 
 -- ---- the scalars that each part sets
 
-opened-fit : (a : Scalars) (t dual tol bnrm : Float) → Fit a → Double t → Double dual → Double tol → Double bnrm → Fit (opened a t dual tol bnrm)
-opened-fit a t dual tol bnrm h ht hd hl hb = record {
+opened-fit : (a : Scalars) (t dual pcgtol bnrm : Float) → Fit a → Double t → Double dual → Double pcgtol → Double bnrm → Fit (opened a t dual pcgtol bnrm)
+opened-fit a t dual pcgtol bnrm h ht hd hl hb = record {
   t = ht;
   s = h .s;
   dual = hd;
-  tol = hl;
+  pcgtol = hl;
   bnrm = hb;
   bkden = h .bkden;
   error = h .error;
@@ -42,12 +42,12 @@ opened-fit a t dual tol bnrm h ht hd hl hb = record {
   gdx = h .gdx;
 }
 
-turned-fit : (a : Scalars) (error bkden : Float) → Fit a → Double error → Double bkden → Fit (turned a error bkden)
-turned-fit a error bkden h he hk = record {
+with-round-fit : (a : Scalars) (error bkden : Float) → Fit a → Double error → Double bkden → Fit (withRound a error bkden)
+with-round-fit a error bkden h he hk = record {
   t = h .t;
   s = h .s;
   dual = h .dual;
-  tol = h .tol;
+  pcgtol = h .pcgtol;
   bnrm = h .bnrm;
   bkden = hk;
   error = he;
@@ -60,7 +60,7 @@ halved-fit a h = record {
   t = h .t;
   s = mul-fits binary64 _ _;
   dual = h .dual;
-  tol = h .tol;
+  pcgtol = h .pcgtol;
   bnrm = h .bnrm;
   bkden = h .bkden;
   error = h .error;
@@ -85,7 +85,7 @@ fresh-fit p lambda = record {
   t = minimum-double _ _ (maximum-double _ _ (ofBits-fits binary64 _) (div-fits binary64 _ _)) (div-fits binary64 _ _);
   s = inf-fits binary64 _;
   dual = ofBits-fits binary64 _;
-  tol = ofBits-fits binary64 _;
+  pcgtol = ofBits-fits binary64 _;
   bnrm = ofBits-fits binary64 _;
   bkden = ofBits-fits binary64 _;
   error = ofBits-fits binary64 _;
@@ -111,22 +111,22 @@ module _ (sh : Sizes) where
   error-double first bkden bnrm v = div-fits binary64 _ _
 
   bkden-double : (first : Bool) (bkden : Float) (v : Store) → Double (roundOf sh first bkden v .bkden)
-  unfolding roundOf roundTurned
+  unfolding roundOf turned
   bkden-double first bkden v = product-double _ _ _
 
   gdx-double : (v : Store) → Double (gdxOf sh v)
   unfolding gdxOf
   gdx-double v = dot-double _ _ _
 
-  turn-to : (n : ℕ) (a : Scalars) (error bkden : Float) (v : Store) → Fit (turned a error bkden) → OfTurned (FitData n) (turnTo a error bkden v)
+  turn-to : (n : ℕ) (a : Scalars) (error bkden : Float) (v : Store) → Fit (withRound a error bkden) → OfTurned (FitData n) (turnTo a error bkden v)
   unfolding turnTo
-  turn-to n a error bkden v h = chosen (OfTurned (FitData n)) (le error (a .tol)) h h
+  turn-to n a error bkden v h = chosen (OfTurned (FitData n)) (le error (a .pcgtol)) h h
 
   turns-fit : (n k : ℕ) (d : Data) → FitData n d → OfTurned (FitData n) (turns sh k d)
   unfolding turns
   turns-fit n k (held a v) h =
       turn-to n a _ _ (turnStore sh (eqb k 1) (a .bkden) v)
-      (turned-fit a _ _ h (error-double (eqb k 1) (a .bkden) (a .bnrm) v) (bkden-double (eqb k 1) (a .bkden) v))
+      (with-round-fit a _ _ h (error-double (eqb k 1) (a .bkden) (a .bnrm) v) (bkden-double (eqb k 1) (a .bkden) v))
 
   module _ (tm : Terms) where
     phi-double : (t : Float) (v : Store) → Double (phiAt sh tm t v)
@@ -139,7 +139,7 @@ module _ (sh : Sizes) where
       t = h .t;
       s = ofBits-fits binary64 _;
       dual = h .dual;
-      tol = h .tol;
+      pcgtol = h .pcgtol;
       bnrm = h .bnrm;
       bkden = h .bkden;
       error = h .error;
@@ -159,7 +159,7 @@ module _ (sh : Sizes) where
       open-fit tol r gap dual v hd =
           let t = nextT (sh .p) (a .s) gap (a .t) in
           let u = newtonStore sh tm m t v in
-          chosen (OfOpened (FitData (n + 1))) (lt (gap ⊘ dual) tol) (opened-fit a (a .t) dual (a .tol) (a .bnrm) h (h .t) hd (h .tol) (h .bnrm))
+          chosen (OfOpened (FitData (n + 1))) (lt (gap ⊘ dual) tol) (opened-fit a (a .t) dual (a .pcgtol) (a .bnrm) h (h .t) hd (h .pcgtol) (h .bnrm))
           (ready-fit t dual (pcgtolOf sh r a gap u) u (next-double (sh .p) (a .s) gap (a .t) (h .t)) hd (pcgtol-double r a gap u))
 
       decide-fit : (newphi : Float) (v : Store) → OfTried (FitData n) (decideBy a newphi v)

@@ -13,7 +13,7 @@ pub record Fit (v : Scalars) : Type 0 where
   pub t : Double (v .t)
   pub s : Double (v .s)
   pub dual : Double (v .dual)
-  pub tol : Double (v .tol)
+  pub pcgtol : Double (v .pcgtol)
   pub bnrm : Double (v .bnrm)
   pub bkden : Double (v .bkden)
   pub error : Double (v .error)

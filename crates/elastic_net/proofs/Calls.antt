@@ -2,7 +2,7 @@
 use mathlib.Core.Path.{_≡_, refl, sym, subst}
 use mathlib.Core.Bool.{Bool, true, false}
 use mathlib.Core.List.{List}
-use Prim.Native.Nat.{ℕ, _+_, _≤_}
+use Prim.Native.Nat.{ℕ, _≤_}
 use native.Mathlib.Omega.{arith}
 use lib.ListN.{length}
 use lib.Ieee.{Float}
@@ -13,6 +13,7 @@ use Rattle.layout.specs.declared.Sizes.{Sizes}
 use Rattle.layout.specs.declared.Places.{Places}
 use Rattle.layout.specs.Slots.{Laid, words}
 use Rattle.layout.specs.Need.{sizesOf, Small}
+use Rattle.refusal.proofs.Scanning.{opposed}
 use Rattle.design.specs.Mode.{Held}
 use Rattle.design.proofs.Lengths.{held-on}
 use Rattle.checks.specs.Checks.{Accepted}
@@ -20,21 +21,21 @@ use Rattle.checks.proofs.Laws.{SizesAre, sizes-known, accepted-small, accepted-
 use Rattle.beginning.specs.Start.{Begins}
 use Rattle.ending.specs.End.{Ends}
 
--- the panels of a lazy fit have rows and columns; an eager one stores some row
+-- the panels of a lazy fit have rows and columns
 record Panelled (sh : Sizes) : Type 0 where
-  rows : sh .rows ≡ 0 → 1 ≤ sh .pr
-  columns : sh .rows ≡ 0 → 1 ≤ sh .pc
+  rows : sh .lazy ≡ true → 1 ≤ sh .pr
+  columns : sh .lazy ≡ true → 1 ≤ sh .pc
 
-panelled : (n p : ℕ) (st : Settings) → 1 ≤ n → (st .lazy ≡ true → Panels st) → Panelled (sizesOf n p st)
+panelled : (n p : ℕ) (st : Settings) → (st .lazy ≡ true → Panels st) → Panelled (sizesOf n p st)
 unfolding sizesOf
-panelled n p st h g = go (st .lazy) refl where
+panelled n p st g = go (st .lazy) refl where
   go : (b : Bool) → st .lazy ≡ b → Panelled (sizesOf n p st)
   go true q = rw q (record { rows = λ z. g q .rows-least; columns = λ z. g q .columns-least })
-  go false q = rw q (record { rows = λ (z : n + p ≡ 0). absurd (omega arith); columns = λ (z : n + p ≡ 0). absurd (omega arith) })
+  go false q = rw q (record { rows = λ z. absurd (opposed false refl z); columns = λ z. absurd (opposed false refl z) })
 
 module _ {n p xl yl wl sl : ℕ} {st : Settings} (a : Accepted n p xl yl wl st sl) where
-  pub few-rounds : st .rounds ≤ 1000
-  few-rounds = allowed-says st (a .settings) .rounds
+  pub few-rounds : st .«max_iter» ≤ 1000
+  few-rounds = allowed-says st (a .settings) .maxIter
 
   module _ {sh : Sizes} (q : sh ≡ sizesOf n p st) where
     pub small : Small sh
@@ -47,7 +48,7 @@ module _ {n p xl yl wl sl : ℕ} {st : Settings} (a : Accepted n p xl yl wl st s
     enough = subst (λ (z : Sizes). words z ≤ sl) (sym q) (accepted-room a)
 
     panels : Panelled sh
-    panels = subst Panelled (sym q) (panelled n p st (a .some-rows) (allowed-says st (a .settings) .panels))
+    panels = subst Panelled (sym q) (panelled n p st (allowed-says st (a .settings) .panels))
 
 module _ {n p yl wl : ℕ} {st : Settings} {sh : Sizes} (q : sh ≡ sizesOf n p st) {l : Places} (d : Laid sh l) {x s : List Float}
     (a : Accepted n p (length x) yl wl st (length s)) where

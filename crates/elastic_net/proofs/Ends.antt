@@ -50,7 +50,7 @@ use Rattle.ending.specs.End.{weightsOf, interceptOf, gone}
 use Rattle.elastic_net.specs.declared.Answer.the-variants.{Pending as PendingA, Done as DoneA, Refused as RefusedA}
 use Rattle.elastic_net.specs.declared.Resumed.{Resumed}
 use Rattle.elastic_net.specs.declared.Started.the-variants.{Ready as ReadyS, Refused as RefusedS}
-use Rattle.elastic_net.specs.ElasticNet.{Outcome, outcome, begun, endOutcome, ending, shown, resumeOf, startOf}
+use Rattle.elastic_net.specs.ElasticNet.{Outcome, outcome, startOutcome, endOutcome, ending, shown, resumeOf, startOf}
 
 -- ---- the steps of a call
 
@@ -111,10 +111,10 @@ abbrev carried : ℕ → ℕ → List Float → List Float → Settings → Paus
 carried n p x y st a s w b =
     let sh = sizesOf n p st in
     let tm = termsOf st n in
-    shown sh (st .normalise) (tm .gamma) y (rest sh s) w (call (parts sh tm (st .tol) x) (st .rounds) b (stateOf a (vars sh s)))
+    shown sh (st .normalise) (tm .gamma) y (rest sh s) w (call (parts sh tm (st .tol) x) (st .«max_iter») b (stateOf a (vars sh s)))
 
 module _ (n p : ℕ) (x y : List Float) (st : Settings) (a : Paused) (s w : List Float) (b : ℕ) {sh : Sizes} {tm : Terms}
-    (qs : sh ≡ sizesOf n p st) (qt : tm ≡ termsOf st n) {o : Stepped} {s₁ : List Float} (d : Did sh (rest sh s) (call (parts sh tm (st .tol) x) (st .rounds) b (stateOf a (vars sh s))) o s₁) where
+    (qs : sh ≡ sizesOf n p st) (qt : tm ≡ termsOf st n) {o : Stepped} {s₁ : List Float} (d : Did sh (rest sh s) (call (parts sh tm (st .tol) x) (st .«max_iter») b (stateOf a (vars sh s))) o s₁) where
   pub paused : {next r : Paused} {s₂ : List Float} → o ≡ Going next → s₂ ≡ s₁ → r ≡ next
       → outcome (record { answer = PendingA; paused = r }) w s₂ ≡ carried n p x y st a s w b
   paused q e k = rw (← qs, ← qt, e, k) (pending-shown (st .normalise) (tm .gamma) y w _ d _ q)
@@ -132,11 +132,11 @@ module _ (n p : ℕ) (x y : List Float) (st : Settings) (a : Paused) (s w : List
   unfolding resumeOf
   refused e = rw (sym q ∙ e)
 
-  pub refused-record : k ≡ Fine → possibleOf (st .rounds) a ≡ false → outcome (record { answer = RefusedA Record; paused = a }) w s ≡ resumeOf n p x y st a s w b
+  pub refused-record : k ≡ Fine → possibleOf (st .«max_iter») a ≡ false → outcome (record { answer = RefusedA Record; paused = a }) w s ≡ resumeOf n p x y st a s w b
   unfolding resumeOf
   refused-record e h = rw (sym q ∙ e, h)
 
-  pub let-through : (u : Resumed) {w′ s′ : List Float} → k ≡ Fine → possibleOf (st .rounds) a ≡ true
+  pub let-through : (u : Resumed) {w′ s′ : List Float} → k ≡ Fine → possibleOf (st .«max_iter») a ≡ true
       → outcome u w′ s′ ≡ carried n p x y st a s w b
       → outcome u w′ s′ ≡ resumeOf n p x y st a s w b
   unfolding resumeOf
@@ -146,17 +146,17 @@ module _ (n p : ℕ) (x y : List Float) (st : Settings) (a : Paused) (s w : List
 
 module _ (n p : ℕ) (x y : List Float) (st : Settings) (s : List Float) {k : Checked}
     (q : k ≡ limitsOf n p (length x) (length y) p st (length s)) where
-  pub start-refused : {r : Refusal} → k ≡ Bad r → begun (RefusedS r) s ≡ startOf n p x y st s
+  pub start-refused : {r : Refusal} → k ≡ Bad r → startOutcome (RefusedS r) s ≡ startOf n p x y st s
   unfolding startOf
   start-refused e = rw (sym q ∙ e)
 
   module _ (e : k ≡ Fine) {j : Checked} (t : j ≡ startValues x y n p (st .normalise)) where
-    pub values-refused : {r : Refusal} → j ≡ Bad r → begun (RefusedS r) s ≡ startOf n p x y st s
+    pub values-refused : {r : Refusal} → j ≡ Bad r → startOutcome (RefusedS r) s ≡ startOf n p x y st s
     unfolding startOf
     values-refused g = rw (sym q ∙ e, sym t ∙ g)
 
     pub starts : {sh : Sizes} {tm : Terms} {m : List Float} {f : Scalars} {u : Paused} → j ≡ Fine → sh ≡ sizesOf n p st → tm ≡ termsOf st n
         → Has sh (rest sh s) (startStore sh (st .normalise) tm x y) m → f ≡ fresh p (tm .lambda) → u ≡ pausedAt Opening 0 none f
-        → begun (ReadyS u) m ≡ startOf n p x y st s
+        → startOutcome (ReadyS u) m ≡ startOf n p x y st s
     unfolding startOf
     starts {sh} g qs qt h qf qu = rw (sym q ∙ e, sym t ∙ g, ← qs, ← qt, qu, qf, flat-of sh h)

@@ -109,8 +109,8 @@ resumeOf n p x y st a s w b =
     let sh = sizesOf n p st in
     let tm = termsOf st n in
     byCheck (limitsOf n p (length x) (length y) (length w) st (length s)) a w s
-    (byCheck (cond (possibleOf (st .rounds) a) Fine (Bad Record)) a w s
-    (shown sh (st .normalise) (tm .gamma) y (rest sh s) w (call (parts sh tm (st .tol) x) (st .rounds) b (stateOf a (vars sh s)))))
+    (byCheck (cond (possibleOf (st .«max_iter») a) Fine (Bad Record)) a w s
+    (shown sh (st .normalise) (tm .gamma) y (rest sh s) w (call (parts sh tm (st .tol) x) (st .«max_iter») b (stateOf a (vars sh s)))))
 
 -- ---- a start
 
@@ -123,19 +123,19 @@ saidS (ReadyS a) = ready a
 saidS (RefusedS r) = refusedS (numberOf r) (placeOf r)
 
 -- what a start answers, and what it leaves in the scratch
-pub record Begun : Type 0 where
+pub record StartOutcome : Type 0 where
   pub answer : SaidS
   pub scratch : List Float
 
-abbrev pub begun : Started → List Float → Begun
-begun r s = record { answer = saidS r; scratch = s }
+abbrev pub startOutcome : Started → List Float → StartOutcome
+startOutcome r s = record { answer = saidS r; scratch = s }
 
-abbrev pub byStartCheck : Checked → List Float → Begun → Begun
+abbrev pub byStartCheck : Checked → List Float → StartOutcome → StartOutcome
 byStartCheck Fine s o = o
 byStartCheck (Bad r) s o = record { answer = refusedS (numberOf r) (placeOf r); scratch = s }
 
 -- n, p, matrix, targets, settings, scratch: 1 to 4, with p for the number of weights, then 5 and 6, each of which changes nothing; else a fresh fit
-unfoldable pub startOf : ℕ → ℕ → List Float → List Float → Settings → List Float → Begun
+unfoldable pub startOf : ℕ → ℕ → List Float → List Float → Settings → List Float → StartOutcome
 startOf n p x y st s =
     let sh = sizesOf n p st in
     let tm = termsOf st n in

@@ -44,7 +44,7 @@ ghost use Rattle.stages.specs.Stage.{Did};
 ghost use Rattle.ending.specs.End.{Ends};
 ghost use Rattle.checks.specs.Checks.{Accepted};
 ghost use Rattle.records.specs.Records.{possibleOf};
-ghost use Rattle.elastic_net.specs.ElasticNet.{outcome, begun, endOutcome, shown, resumeOf, startOf};
+ghost use Rattle.elastic_net.specs.ElasticNet.{outcome, startOutcome, endOutcome, shown, resumeOf, startOf};
 
 // What a resuming call answers. Done carries the intercept, how the fit ended, and the counts; the weights are in the lent slice.
 pub enum Answer {
@@ -148,15 +148,16 @@ fn accepted(
     budget: u64,
 ) -> Resumed
     requires { ⌜ Accepted n p (length (now x)) (length (now y)) (length (now w)) st (length (now s)) ⌝ }
-    requires { ⌜ possibleOf (st .rounds) rec ≡ true ⌝ }
+    requires { ⌜ possibleOf (st .«max_iter») rec ≡ true ⌝ }
     ensures { λ r. ⌜ outcome r (now (w .exit)) (now (s .exit))
         ≡ shown (sizesOf n p st) (st .normalise) (termsOf st n .gamma) (now (y .entry)) (rest (sizesOf n p st) (now (s .entry))) (now (w .entry))
-        (call (parts (sizesOf n p st) (termsOf st n) (st .tol) (now (x .entry))) (st .rounds) budget (stateOf rec (vars (sizesOf n p st) (now (s .entry))))) ⌝ }
+        (call (parts (sizesOf n p st) (termsOf st n) (st .tol) (now (x .entry))) (st .«max_iter») budget
+        (stateOf rec (vars (sizesOf n p st) (now (s .entry))))) ⌝ }
 {
     let sh = sizes_of(n, p, st);
     let l = place(sh);
     let tm = terms_of(st, n);
-    match go(x, sh, tm, st.tol, st.rounds, s, l, rec, budget) {
+    match go(x, sh, tm, st.tol, st.max_iter, s, l, rec, budget) {
         Stepped::Going(next) => {
             tidy(s, sh, l, budget);
             let r = clean(next);
@@ -192,7 +193,7 @@ pub fn resume(
             paused: rec,
         };
     }
-    if !possible(st.rounds, rec) {
+    if !possible(st.max_iter, rec) {
         return Resumed {
             answer: Answer::Refused(Refusal::Record),
             paused: rec,
@@ -204,7 +205,7 @@ pub fn resume(
 // Checks the input, writes the needed scratch and answers the first record. It takes no step, and where it refuses it writes nothing. Total, for all input:
 // answer and scratch are `startOf`.
 pub fn start(n: usize, p: usize, x: &[f64], y: &[f64], st: Settings, s: &mut [f64]) -> Started
-    ensures { λ r. ⌜ begun r (now (s .exit)) ≡ startOf n p (now (x .entry)) (now (y .entry)) st (now (s .entry)) ⌝ }
+    ensures { λ r. ⌜ startOutcome r (now (s .exit)) ≡ startOf n p (now (x .entry)) (now (y .entry)) st (now (s .entry)) ⌝ }
 {
     let c = limits(n, p, x.len(), y.len(), p, st, s.len());
     if let Checked::Bad(r) = c {

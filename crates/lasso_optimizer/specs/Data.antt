@@ -15,11 +15,11 @@ storeOf (held a v) = v
 
 -- the scalars that an opening, a solver round, what follows the last one, and a failed trial set
 abbrev pub opened : Scalars → Float → Float → Float → Float → Scalars
-opened a t dual tol bnrm = record {
+opened a t dual pcgtol bnrm = record {
   t = t;
   s = a .s;
   dual = dual;
-  tol = tol;
+  pcgtol = pcgtol;
   bnrm = bnrm;
   bkden = a .bkden;
   error = a .error;
@@ -28,12 +28,12 @@ opened a t dual tol bnrm = record {
   missed = a .missed;
 }
 
-abbrev pub turned : Scalars → Float → Float → Scalars
-turned a error bkden = record {
+abbrev pub withRound : Scalars → Float → Float → Scalars
+withRound a error bkden = record {
   t = a .t;
   s = a .s;
   dual = a .dual;
-  tol = a .tol;
+  pcgtol = a .pcgtol;
   bnrm = a .bnrm;
   bkden = bkden;
   error = error;
@@ -47,7 +47,7 @@ aimed a s phi gdx missed = record {
   t = a .t;
   s = s;
   dual = a .dual;
-  tol = a .tol;
+  pcgtol = a .pcgtol;
   bnrm = a .bnrm;
   bkden = a .bkden;
   error = a .error;

@@ -22,14 +22,14 @@ use Rattle.pause.specs.Parts.{Opened, ready, done, fails}
 use Rattle.lasso_optimizer.specs.declared.Scalars.{Scalars}
 use Rattle.lasso_optimizer.specs.Data.{Data, held, opened}
 
--- the Rust's gamma, -0.25
-abbrev pub gamma : Float
-gamma = neg (f64 0x3fd0_0000_0000_0000)
+-- -0.25: the Rust's second `gamma`, which has nothing to do with the one of the settings
+abbrev pub minusQuarter : Float
+minusQuarter = neg (f64 0x3fd0_0000_0000_0000)
 
 module _ (sh : Sizes) where
   -- dobj, of the vectors that the gap part leaves
   unfoldable pub dualOf : Float → Store → Float
-  dualOf dual v = maximumOf dual (gamma ⊗ dotOf (sh .k) (v NU) (v NU) ⊖ dotOf (sh .k) (v NU) (v Y))
+  dualOf dual v = maximumOf dual (minusQuarter ⊗ dotOf (sh .k) (v NU) (v NU) ⊖ dotOf (sh .k) (v NU) (v Y))
 
   -- the Newton terms: q1, q2, d1 and d2; then prb and prs
   unfoldable pub barrierStore : Float → Store → Store
@@ -100,7 +100,7 @@ module _ (sh : Sizes) where
         openBy r a gap dual v =
             let t = nextT (sh .p) (a .s) gap (a .t) in
             let u = newtonStore t v in
-            cond (lt (gap ⊘ dual) tol) (done (held (opened a (a .t) dual (a .tol) (a .bnrm)) v)) (readyBy a t dual (pcgtolOf r a gap u) u)
+            cond (lt (gap ⊘ dual) tol) (done (held (opened a (a .t) dual (a .pcgtol) (a .bnrm)) v)) (readyBy a t dual (pcgtolOf r a gap u) u)
 
         -- an opening: the gap part comes first, and both tests read what it leaves
         unfoldable pub opens : ℕ → Data → Opened Failure Data

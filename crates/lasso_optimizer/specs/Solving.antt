@@ -13,15 +13,15 @@ use Rattle.inner_solver.specs.Inner.{roundOf, turnStore, turnError}
 use Rattle.line_search.specs.Search.{sumlognegOf, phiOf}
 use Rattle.pause.specs.Parts.{Turned, more, stop}
 use Rattle.lasso_optimizer.specs.declared.Scalars.{Scalars}
-use Rattle.lasso_optimizer.specs.Data.{Data, held, turned, aimed}
+use Rattle.lasso_optimizer.specs.Data.{Data, held, withRound, aimed}
 
 -- an error above the tolerance is a miss, which is never forgotten
 unfoldable pub missedBy : Scalars → Bool
-missedBy a = a .missed || lt (a .tol) (a .error)
+missedBy a = a .missed || lt (a .pcgtol) (a .error)
 
 -- the error decides
 unfoldable pub turnTo : Scalars → Float → Float → Store → Turned Data
-turnTo a error bkden v = cond (le error (a .tol)) (stop (held (turned a error bkden) v)) (more (held (turned a error bkden) v))
+turnTo a error bkden v = cond (le error (a .pcgtol)) (stop (held (withRound a error bkden) v)) (more (held (withRound a error bkden) v))
 
 module _ (sh : Sizes) where
   -- the k-th round, counted from 1

@@ -9,7 +9,7 @@ pub struct Scalars {
     pub s: f64,
     pub dual: f64,
     // the solver's: its tolerance, the norm of its right side, bkden and error of its last round
-    pub tol: f64,
+    pub pcgtol: f64,
     pub bnrm: f64,
     pub bkden: f64,
     pub error: f64,

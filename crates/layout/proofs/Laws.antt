@@ -37,7 +37,7 @@ pub record Products (sh : Sizes) : Type 0 where
   pub panel : sh .pr * sh .pc ≤ 8192
   pub sums : sh .pc * sh .pc ≤ 1024
   pub gram : sh .p * sh .p ≤ 4096
-  pub stored : sh .rows * sh .p ≤ 266240
+  pub stored : sh .stored * sh .p ≤ 266240
 
 pub products : (sh : Sizes) → Small sh → Products sh
 products sh h = record {

@@ -88,7 +88,7 @@ size sh Y = sh .k
 size sh Z = sh .k
 size sh NU = sh .k
 size sh NEWZ = sh .k
-size sh DESIGN = sh .rows * sh .p
+size sh DESIGN = sh .stored * sh .p
 
 abbrev pub off : Sizes → Slot → ℕ
 off sh W = 0
@@ -135,7 +135,7 @@ names =
 
 -- the words that a fit of these sizes needs
 unfoldable pub words : Sizes → ℕ
-words sh = 40 * sh .p + 2 * (sh .pr * sh .pc) + sh .pc * sh .pc + sh .p * sh .p + 4 * sh .k + sh .rows * sh .p
+words sh = 40 * sh .p + 2 * (sh .pr * sh .pc) + sh .pc * sh .pc + sh .p * sh .p + 4 * sh .k + sh .stored * sh .p
 
 abbrev pub Store : Type 0
 Store = Slot → List Float
@@ -209,5 +209,5 @@ pub record Laid (sh : Sizes) (l : Places) : Type 0 where
 
 -- sizes and places that are right for a memory
 pub record Room (sh : Sizes) (l : Places) (m : List Float) : Type 0 where
-  pub room : 40 * sh .p + 2 * (sh .pr * sh .pc) + sh .pc * sh .pc + sh .p * sh .p + 4 * sh .k + sh .rows * sh .p ≤ length m
+  pub room : 40 * sh .p + 2 * (sh .pr * sh .pc) + sh .pc * sh .pc + sh .p * sh .p + 4 * sh .k + sh .stored * sh .p ≤ length m
   pub laid : Laid sh l

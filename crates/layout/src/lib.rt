@@ -5,12 +5,13 @@ ghost use Prim.Native.Nat.{_≤_};
 ghost use Rattle.layout.specs.Slots.{Laid, words};
 ghost use Rattle.layout.specs.Need.{sizesOf, Small};
 
-// k is n + p. `rows` is that of the design in the scratch: k, or 0 where the design is lazy; pr and pc are its panels', 0 where it is not.
+// k is n + p. `stored` is the number of the design's rows in the scratch: k, or none of a lazy design; pr and pc are the panels' of a lazy one, and else 0.
 pub struct Sizes {
     pub n: usize,
     pub p: usize,
     pub k: usize,
-    pub rows: usize,
+    pub lazy: bool,
+    pub stored: usize,
     pub pr: usize,
     pub pc: usize,
 }
@@ -66,7 +67,8 @@ pub fn sizes_of(n: usize, p: usize, st: Settings) -> Sizes
             n: n,
             p: p,
             k: k,
-            rows: 0,
+            lazy: true,
+            stored: 0,
             pr: st.panel_rows,
             pc: st.panel_cols,
         };
@@ -75,7 +77,8 @@ pub fn sizes_of(n: usize, p: usize, st: Settings) -> Sizes
         n: n,
         p: p,
         k: k,
-        rows: k,
+        lazy: false,
+        stored: k,
         pr: 0,
         pc: 0,
     }
@@ -87,7 +90,7 @@ pub fn need(sh: Sizes) -> usize
     ensures { λ r. ⌜ r ≡ words sh ⌝ }
 {
     let p = sh.p;
-    40 * p + 2 * (sh.pr * sh.pc) + sh.pc * sh.pc + p * p + 4 * sh.k + sh.rows * p
+    40 * p + 2 * (sh.pr * sh.pc) + sh.pc * sh.pc + p * p + 4 * sh.k + sh.stored * p
 }
 
 // The vectors one behind another, without gaps, in the order of `Places`. Panels and stored design have no words in a mode without them.

@@ -25,7 +25,8 @@ use Rattle.layout.proofs.Slots.{start, then}
 use Rattle.gram_panels.specs.Panels.{mat, same, cell}
 use Rattle.gram_panels.proofs.Mats.{row-le, put-tab-tab, length-mat, mat-below, mat-in, mat-ext, mat-mat, mat-put}
 use Rattle.lazy_gram.specs.Gram.{cellAt, entryOf, lazyGramOf, lazyGramStore, Lent}
-use Rattle.lazy_gram.specs.Nest.{Like, low, entry, Rows, Clear, nones, raised, raisedAt, right-of, turned, gramAt}
+use Rattle.lazy_gram.specs.declared.GramPlaces.{GramPlaces}
+use Rattle.lazy_gram.specs.Nest.{Like, low, entry, Rows, Clear, nones, raised, raisedAt, right-of, fromBelow, gramAt}
 use Rattle.lazy_gram.proofs.Likes.{like-mat, like-clear}
 use Rattle.lazy_gram.proofs.Carried.{entry-like, entry-sym}
 
@@ -72,11 +73,11 @@ eqb-sym j k = go (eqb k j) refl where
 pub raised-sym : (gg pp : Float) (f : ℕ → ℕ → Float) → ((j k : ℕ) → f j k ≡ f k j) → (j k : ℕ) → raised gg pp (eqb j k) (f j k) ≡ raised gg pp (eqb k j) (f k j)
 raised-sym gg pp f h j k = rw (eqb-sym j k, h j k)
 
-module _ {m : List Float} {n p rr : ℕ} {s₀ : List Float} {ce sc le ri cc ga : ℕ} (pre : Rows m n p rr s₀ ce sc le ri cc ga)
-    {s₁ : List Float} (e₁ : s₁ ≡ mat s₀ ga p low nones p) where
-  pub gram-rows : Rows m n p rr s₁ ce sc le ri cc ga
+module _ {m : List Float} {n p rr : ℕ} {s₀ : List Float} {pl : GramPlaces} (pre : Rows m n p rr s₀ pl)
+    {s₁ : List Float} (e₁ : s₁ ≡ mat s₀ (pl .ga) p low nones p) where
+  pub gram-rows : Rows m n p rr s₁ pl
   gram-rows =
-      let l : length s₁ ≡ length s₀ = ap length e₁ ∙ length-mat s₀ ga p low nones p in
+      let l : length s₁ ≡ length s₀ = ap length e₁ ∙ length-mat s₀ (pl .ga) p low nones p in
       record {
         matrix = pre .matrix;
         rows = pre .rows;
@@ -90,63 +91,63 @@ module _ {m : List Float} {n p rr : ℕ} {s₀ : List Float} {ce sc le ri cc ga 
         fits = omega arith;
       }
 
-  pub gram-clear : Clear s₁ p ga
+  pub gram-clear : Clear s₁ p (pl .ga)
   gram-clear j k hj hk =
-      ap (λ (t : List Float). t ! (ga + j * p + k)) e₁
-      ∙ mat-in s₀ ga p low nones p j k (λ i l. omega arith) (omega (arith, pre, row-le j p p hj)) hj hk
+      ap (λ (t : List Float). t ! ((pl .ga) + j * p + k)) e₁
+      ∙ mat-in s₀ (pl .ga) p low nones p j k (λ i l. omega arith) (omega (arith, pre, row-le j p p hj)) hj hk
 
-  gram-cells : (i b : ℕ) → b < p → cell m p s₁ ce sc i b ≡ cellAt p m (part s₀ ce p) (part s₀ sc p) i b
+  gram-cells : (i b : ℕ) → b < p → cell m p s₁ (pl .ce) (pl .sc) i b ≡ cellAt p m (part s₀ (pl .ce) p) (part s₀ (pl .sc) p) i b
   unfolding cell
   gram-cells i b l =
-      let below : (at : ℕ) → at + p ≤ ga → s₁ ! (at + b) ≡ part s₀ at p ! b =
-      λ at h. ap (λ (t : List Float). t ! (at + b)) e₁ ∙ mat-below s₀ ga p low nones p (at + b) (omega arith) ∙ sym (getD-part s₀ at p b nan l) in
-      rw (below ce (omega (arith, pre)), below sc (omega (arith, pre)))
+      let below : (at : ℕ) → at + p ≤ (pl .ga) → s₁ ! (at + b) ≡ part s₀ at p ! b =
+      λ at h. ap (λ (t : List Float). t ! (at + b)) e₁ ∙ mat-below s₀ (pl .ga) p low nones p (at + b) (omega arith) ∙ sym (getD-part s₀ at p b nan l) in
+      rw (below (pl .ce) (omega (arith, pre)), below (pl .sc) (omega (arith, pre)))
 
   pub gram-done : (gg pp : Float) (s₂ s₃ s₄ : List Float)
-      → Like le (ri + rr * cc) s₂ (mat s₁ ga p low (entry (cell m p s₁ ce sc) n) p)
-      → s₃ ≡ mat s₂ ga p low (λ j. raisedAt s₂ (ga + j * p) gg pp j) p
-      → s₄ ≡ mat s₃ (ga + 1) (p + 1) (right-of p) (turned s₃ ga p) p
-      → Like le (ri + rr * cc) s₄ (put s₀ ga (gramAt n p gg pp m s₀ ce sc))
+      → Like (pl .le) ((pl .ri) + rr * (pl .cc)) s₂ (mat s₁ (pl .ga) p low (entry (cell m p s₁ (pl .ce) (pl .sc)) n) p)
+      → s₃ ≡ mat s₂ (pl .ga) p low (λ j. raisedAt s₂ ((pl .ga) + j * p) gg pp j) p
+      → s₄ ≡ mat s₃ ((pl .ga) + 1) (p + 1) (right-of p) (fromBelow s₃ (pl .ga) p) p
+      → Like (pl .le) ((pl .ri) + rr * (pl .cc)) s₄ (put s₀ (pl .ga) (gramAt n p gg pp m s₀ (pl .ce) (pl .sc)))
   unfolding entry entryOf gramAt
   gram-done gg pp s₂ s₃ s₄ L₁ e₃ e₄ =
-      let en = ri + rr * cc in
-      let D = cellAt p m (part s₀ ce p) (part s₀ sc p) in
-      let c₁ = cell m p s₁ ce sc in
+      let en = (pl .ri) + rr * (pl .cc) in
+      let D = cellAt p m (part s₀ (pl .ce) p) (part s₀ (pl .sc) p) in
+      let c₁ = cell m p s₁ (pl .ce) (pl .sc) in
       let S = entry D n in
       let F : ℕ → ℕ → Float = λ j i. raised gg pp (eqb j i) (S j i) in
-      let M = mat s₀ ga p low S p in
-      let N = mat s₀ ga p low F p in
+      let M = mat s₀ (pl .ga) p low S p in
+      let N = mat s₀ (pl .ga) p low F p in
       let U : ℕ → ℕ → Float = λ j b. F j (j + 1 + b) in
-      let fits : (a : ℕ) → a < p → ga + a * p + low a ≤ length s₀ = λ a l. omega (arith, pre, row-le a p p l) in
-      let m₁ : mat s₁ ga p low (entry c₁ n) p ≡ M =
-      mat-ext s₁ ga p low low (entry c₁ n) S p (λ a l. refl)
+      let fits : (a : ℕ) → a < p → (pl .ga) + a * p + low a ≤ length s₀ = λ a l. omega (arith, pre, row-le a p p l) in
+      let m₁ : mat s₁ (pl .ga) p low (entry c₁ n) p ≡ M =
+      mat-ext s₁ (pl .ga) p low low (entry c₁ n) S p (λ a l. refl)
       (λ a b ha hb. entry-like c₁ D n a b (λ i. gram-cells i a (omega arith)) (λ i. gram-cells i b (omega arith)))
-      ∙ ap (λ (t : List Float). mat t ga p low S p) e₁ ∙ mat-mat s₀ ga p low nones S p (λ a l. omega arith) in
-      let L : Like le en s₂ M = subst (λ (t : List Float). Like le en s₂ t) m₁ L₁ in
-      let len : length s₂ ≡ length s₀ = L .len ∙ length-mat s₀ ga p low S p in
-      let t₃ : mat s₂ ga p low (λ j. raisedAt s₂ (ga + j * p) gg pp j) p ≡ mat s₂ ga p low F p =
-      mat-ext s₂ ga p low low (λ j. raisedAt s₂ (ga + j * p) gg pp j) F p (λ a l. refl)
+      ∙ ap (λ (t : List Float). mat t (pl .ga) p low S p) e₁ ∙ mat-mat s₀ (pl .ga) p low nones S p (λ a l. omega arith) in
+      let L : Like (pl .le) en s₂ M = subst (λ (t : List Float). Like (pl .le) en s₂ t) m₁ L₁ in
+      let len : length s₂ ≡ length s₀ = L .len ∙ length-mat s₀ (pl .ga) p low S p in
+      let t₃ : mat s₂ (pl .ga) p low (λ j. raisedAt s₂ ((pl .ga) + j * p) gg pp j) p ≡ mat s₂ (pl .ga) p low F p =
+      mat-ext s₂ (pl .ga) p low low (λ j. raisedAt s₂ ((pl .ga) + j * p) gg pp j) F p (λ a l. refl)
       (λ a b ha hb.
       ap (raised gg pp (eqb a b))
-      (L .high (ga + a * p + b) (omega (arith, pre)) ∙ mat-in s₀ ga p low S p a b (λ i l. omega arith) (fits a ha) ha hb)) in
-      let L₃ : Like le en s₃ N =
-      subst (λ (t : List Float). Like le en t N) (sym (e₃ ∙ t₃))
-      (subst (λ (t : List Float). Like le en (mat s₂ ga p low F p) t) (mat-mat s₀ ga p low S F p (λ a l. omega arith))
-      (like-mat le en s₂ M ga p low F p (λ a l. rw len (fits a l)) L)) in
-      let len₃ : length s₃ ≡ length s₀ = L₃ .len ∙ length-mat s₀ ga p low F p in
-      let t₄ : mat s₃ (ga + 1) (p + 1) (right-of p) (turned s₃ ga p) p ≡ mat s₃ (ga + 1) (p + 1) (right-of p) U p =
-      mat-ext s₃ (ga + 1) (p + 1) (right-of p) (right-of p) (turned s₃ ga p) U p (λ a l. refl)
+      (L .high ((pl .ga) + a * p + b) (omega (arith, pre)) ∙ mat-in s₀ (pl .ga) p low S p a b (λ i l. omega arith) (fits a ha) ha hb)) in
+      let L₃ : Like (pl .le) en s₃ N =
+      subst (λ (t : List Float). Like (pl .le) en t N) (sym (e₃ ∙ t₃))
+      (subst (λ (t : List Float). Like (pl .le) en (mat s₂ (pl .ga) p low F p) t) (mat-mat s₀ (pl .ga) p low S F p (λ a l. omega arith))
+      (like-mat (pl .le) en s₂ M (pl .ga) p low F p (λ a l. rw len (fits a l)) L)) in
+      let len₃ : length s₃ ≡ length s₀ = L₃ .len ∙ length-mat s₀ (pl .ga) p low F p in
+      let t₄ : mat s₃ ((pl .ga) + 1) (p + 1) (right-of p) (fromBelow s₃ (pl .ga) p) p ≡ mat s₃ ((pl .ga) + 1) (p + 1) (right-of p) U p =
+      mat-ext s₃ ((pl .ga) + 1) (p + 1) (right-of p) (right-of p) (fromBelow s₃ (pl .ga) p) U p (λ a l. refl)
       (λ j b hj hb.
-      let e : ga + p + j * (p + 1) + b * p ≡ ga + (j + 1 + b) * p + j =
+      let e : (pl .ga) + p + j * (p + 1) + b * p ≡ (pl .ga) + (j + 1 + b) * p + j =
       omega (arith, mul-add j p 1, mul-one j, add-mul (j + 1) b p, add-mul j 1 p, one-mul p) in
       let hk : j + 1 + b < p = omega arith in
-      L₃ .high (ga + p + j * (p + 1) + b * p) (omega (arith, pre)) ∙ ap (λ (q : ℕ). N ! q) e
-      ∙ mat-in s₀ ga p low F p (j + 1 + b) j (λ i l. omega arith) (fits (j + 1 + b) hk) hk (omega arith)
+      L₃ .high ((pl .ga) + p + j * (p + 1) + b * p) (omega (arith, pre)) ∙ ap (λ (q : ℕ). N ! q) e
+      ∙ mat-in s₀ (pl .ga) p low F p (j + 1 + b) j (λ i l. omega arith) (fits (j + 1 + b) hk) hk (omega arith)
       ∙ raised-sym gg pp S (λ a i. entry-sym D n a i) (j + 1 + b) j) in
-      let L₄ : Like le en (mat s₃ (ga + 1) (p + 1) (right-of p) U p) (mat N (ga + 1) (p + 1) (right-of p) U p) =
-      like-mat le en s₃ N (ga + 1) (p + 1) (right-of p) U p (λ a l. omega (arith, pre, row-le a p p l, mul-add a p 1, mul-one a)) L₃ in
-      subst (λ (v : List Float). Like le en v (put s₀ ga (grid F p p))) (sym (e₄ ∙ t₄))
-      (subst (λ (v : List Float). Like le en (mat s₃ (ga + 1) (p + 1) (right-of p) U p) v) (square s₀ ga p F p (omega arith) ∙ mat-grid s₀ ga p F p) L₄)
+      let L₄ : Like (pl .le) en (mat s₃ ((pl .ga) + 1) (p + 1) (right-of p) U p) (mat N ((pl .ga) + 1) (p + 1) (right-of p) U p) =
+      like-mat (pl .le) en s₃ N ((pl .ga) + 1) (p + 1) (right-of p) U p (λ a l. omega (arith, pre, row-le a p p l, mul-add a p 1, mul-one a)) L₃ in
+      subst (λ (v : List Float). Like (pl .le) en v (put s₀ (pl .ga) (grid F p p))) (sym (e₄ ∙ t₄))
+      (subst (λ (v : List Float). Like (pl .le) en (mat s₃ ((pl .ga) + 1) (p + 1) (right-of p) U p) v) (square s₀ (pl .ga) p F p (omega arith) ∙ mat-grid s₀ (pl .ga) p F p) L₄)
 
 -- ---- in the layout
 
@@ -159,7 +160,8 @@ unfolding lazyGramOf
 length-lazy-gram n p t m ce sc = length-grid _ p p
 
 module _ {sh : Sizes} {l : Places} {m s₀ : List Float} (pre : Lent sh l m s₀) where
-  pub lent-rows : Rows m (sh .n) (sh .p) (sh .pr) s₀ (l .centre) (l .scale) (l .left) (l .right) (sh .pc) (l .gram)
+  pub lent-rows : Rows m (sh .n) (sh .p) (sh .pr) s₀
+      (record { ce = l .centre; sc = l .scale; le = l .left; ri = l .right; cc = sh .pc; ga = l .gram })
   lent-rows =
       let laid = pre .room .laid in
       let one : 1 * sh .pc ≤ sh .pr * sh .pc = mul-le-mul-right (sh .pc) (pre .panel-rows) in

@@ -12,6 +12,7 @@ use Rattle.arrays.specs.Part.{part}
 use Rattle.arrays.specs.Sums.{_!_, products, plus0}
 use Rattle.matrices.specs.Grid.{grid}
 use Rattle.gram_panels.specs.Panels.{mat, cell}
+use Rattle.lazy_gram.specs.declared.GramPlaces.{GramPlaces}
 use Rattle.lazy_gram.specs.Gram.{entryOf}
 
 -- ---- rows of the lower triangle, and lists that are the same but for the panels
@@ -44,52 +45,52 @@ abbrev pub next : (ℕ → ℕ → Float) → List Float → ℕ → ℕ → ℕ
 next c s g p row nr j a b = adv c row (s ! (g + a * p + b)) nr (j + a) b
 
 -- s with n of these rows advanced, w a sums of row j + a
-abbrev pub advanced : List Float → ℕ → ℕ → ℕ → List Float → ℕ → ℕ → ℕ → ℕ → (ℕ → ℕ) → ℕ → List Float
-advanced m p row nr s ce sc ga j w n = mat s (ga + j * p) p w (next (cell m p s ce sc) s (ga + j * p) p row nr j) n
+abbrev pub advanced : List Float → ℕ → ℕ → ℕ → List Float → GramPlaces → ℕ → (ℕ → ℕ) → ℕ → List Float
+advanced m p row nr s pl j w n = mat s (pl .ga + j * p) p w (next (cell m p s (pl .ce) (pl .sc)) s (pl .ga + j * p) p row nr j) n
 
 -- the same of the Gram's rows from 0, and s with n rows of the lower triangle advanced
 abbrev pub whole : (ℕ → ℕ → Float) → List Float → ℕ → ℕ → ℕ → ℕ → ℕ → ℕ → Float
 whole c s ga p row nr j k = adv c row (s ! (ga + j * p + k)) nr j k
 
-abbrev pub advancedLow : List Float → ℕ → ℕ → ℕ → List Float → ℕ → ℕ → ℕ → ℕ → List Float
-advancedLow m p row nr s ce sc ga n = mat s ga p low (whole (cell m p s ce sc) s ga p row nr) n
+abbrev pub advancedLow : List Float → ℕ → ℕ → ℕ → List Float → GramPlaces → ℕ → List Float
+advancedLow m p row nr s pl n = mat s (pl .ga) p low (whole (cell m p s (pl .ce) (pl .sc)) s (pl .ga) p row nr) n
 
 -- where things lie: centres and scales, the left panel, the right panel, the Gram
-pub record Lie (m : List Float) (p row nr : ℕ) (s : List Float) (ce sc le ri cc ga : ℕ) : Type 0 where
+pub record Lie (m : List Float) (p row nr : ℕ) (s : List Float) (pl : GramPlaces) : Type 0 where
   pub matrix : (row + nr) * p ≤ length m
   pub rows : row + nr ≤ length m
-  pub some : 1 ≤ cc
-  pub centres : ce + p ≤ le
-  pub scales : sc + p ≤ le
-  pub left : le + nr * cc ≤ ri
-  pub right : ri + nr * cc ≤ ga
-  pub gram : ga + p * p ≤ length s
-  pub fits : p + cc ≤ length s
+  pub some : 1 ≤ pl .cc
+  pub centres : pl .ce + p ≤ pl .le
+  pub scales : pl .sc + p ≤ pl .le
+  pub left : pl .le + nr * pl .cc ≤ pl .ri
+  pub right : pl .ri + nr * pl .cc ≤ pl .ga
+  pub gram : pl .ga + p * p ≤ length s
+  pub fits : p + pl .cc ≤ length s
 
 -- the same, and the left panel holds nj columns from jb * cc
-pub record Pairs (m : List Float) (p row nr : ℕ) (s : List Float) (ce sc le ri cc ga jb nj : ℕ) : Type 0 where
-  pub lie : Lie m p row nr s ce sc le ri cc ga
-  pub cols : jb * cc + nj ≤ p
-  pub width : nj ≤ cc
-  pub held : (i a : ℕ) → i < nr → a < nj → s ! (le + i * cc + a) ≡ cell m p s ce sc (row + i) (jb * cc + a)
+pub record Pairs (m : List Float) (p row nr : ℕ) (s : List Float) (pl : GramPlaces) (jb nj : ℕ) : Type 0 where
+  pub lie : Lie m p row nr s pl
+  pub cols : jb * pl .cc + nj ≤ p
+  pub width : nj ≤ pl .cc
+  pub held : (i a : ℕ) → i < nr → a < nj → s ! (pl .le + i * pl .cc + a) ≡ cell m p s (pl .ce) (pl .sc) (row + i) (jb * pl .cc + a)
 
 -- the same, and block jb begins within the matrix
-pub record Column (m : List Float) (p row nr : ℕ) (s : List Float) (ce sc le ri cc ga jb : ℕ) : Type 0 where
-  pub lie : Lie m p row nr s ce sc le ri cc ga
-  pub inside : jb * cc < p
+pub record Column (m : List Float) (p row nr : ℕ) (s : List Float) (pl : GramPlaces) (jb : ℕ) : Type 0 where
+  pub lie : Lie m p row nr s pl
+  pub inside : jb * pl .cc < p
 
 -- n rows, in blocks of rr
-pub record Rows (m : List Float) (n p rr : ℕ) (s : List Float) (ce sc le ri cc ga : ℕ) : Type 0 where
+pub record Rows (m : List Float) (n p rr : ℕ) (s : List Float) (pl : GramPlaces) : Type 0 where
   pub matrix : n * p ≤ length m
   pub rows : n ≤ length m
-  pub some : 1 ≤ cc
+  pub some : 1 ≤ pl .cc
   pub any : 1 ≤ rr
-  pub centres : ce + p ≤ le
-  pub scales : sc + p ≤ le
-  pub left : le + rr * cc ≤ ri
-  pub right : ri + rr * cc ≤ ga
-  pub gram : ga + p * p ≤ length s
-  pub fits : p + cc ≤ length s
+  pub centres : pl .ce + p ≤ pl .le
+  pub scales : pl .sc + p ≤ pl .le
+  pub left : pl .le + rr * pl .cc ≤ pl .ri
+  pub right : pl .ri + rr * pl .cc ≤ pl .ga
+  pub gram : pl .ga + p * p ≤ length s
+  pub fits : p + pl .cc ≤ length s
 
 -- the lower triangle is +0
 abbrev pub Clear : List Float → ℕ → ℕ → Type 0
@@ -116,8 +117,8 @@ abbrev pub right-of : ℕ → ℕ → ℕ
 right-of p k = p - (k + 1)
 
 -- those elements, each from its place below the diagonal
-abbrev pub turned : List Float → ℕ → ℕ → ℕ → ℕ → Float
-turned s ga p k = across s (ga + p + k * (p + 1)) p
+abbrev pub fromBelow : List Float → ℕ → ℕ → ℕ → ℕ → Float
+fromBelow s ga p k = across s (ga + p + k * (p + 1)) p
 
 -- the row lies before the column
 pub record MirrorRow (s : List Float) (to from p n : ℕ) : Type 0 where

@@ -16,7 +16,17 @@ ghost use Rattle.layout.specs.Slots.{Makes};
 ghost use Rattle.gram_panels.specs.Panels.{mat, same, least, cell};
 ghost use Rattle.lazy_gram.specs.Gram.{lazyGramStore, Lent};
 ghost use Rattle.lazy_gram.specs.Nest.{Like, entry, advanced, Pairs, tri, low, advancedLow, Lie, Column, Rows, Clear, nones};
-ghost use Rattle.lazy_gram.specs.Nest.{raisedAt, across, right-of, turned, MirrorRow, gramAt};
+ghost use Rattle.lazy_gram.specs.Nest.{raisedAt, across, right-of, fromBelow, MirrorRow, gramAt};
+
+// Where things lie in the scratch: the columns' centres and scales, the left and the right panel, whose rows have cc words, and the Gram.
+pub struct GramPlaces {
+    pub ce: usize,
+    pub sc: usize,
+    pub le: usize,
+    pub ri: usize,
+    pub cc: usize,
+    pub ga: usize,
+}
 
 // For nr rows from `row`: adds the products of the nj columns from jb * cc, which the left panel holds, with each column before them.
 fn pairs(
@@ -25,103 +35,63 @@ fn pairs(
     row: usize,
     nr: usize,
     s: &mut [f64],
-    ce: usize,
-    sc: usize,
-    le: usize,
-    ri: usize,
-    cc: usize,
-    ga: usize,
+    pl: GramPlaces,
     jb: usize,
     nj: usize,
 )
-    requires { ⌜ Pairs (now m) p row nr (now s) ce sc le ri cc ga jb nj ⌝ }
-    ensures { λ _. ⌜ Like ri (ri + nr * cc) (now (s .exit)) (advanced (now (m .entry)) p row nr (now (s .entry)) ce sc ga (jb * cc) (same (jb * cc)) nj) ⌝ }
+    requires { ⌜ Pairs (now m) p row nr (now s) pl jb nj ⌝ }
+    ensures { λ _. ⌜ Like (pl .ri) (pl .ri + nr * pl .cc) (now (s .exit)) (advanced (now (m .entry)) p row nr (now (s .entry)) pl (jb * pl .cc)
+        (same (jb * pl .cc)) nj) ⌝ }
 {
-    let j = jb * cc;
-    let g = ga + j * p;
+    let j = jb * pl.cc;
+    let g = pl.ga + j * p;
     let mut kb = 0usize;
     while kb < jb {
-        let k = kb * cc;
-        fill_panel(m, p, row, nr, k, cc, s, ce, sc, ri, cc);
-        block(s, g + k, p, nj, cc, j - k, le, ri, cc, nr);
+        let k = kb * pl.cc;
+        fill_panel(m, p, row, nr, k, pl.cc, s, pl.ce, pl.sc, pl.ri, pl.cc);
+        block(s, g + k, p, nj, pl.cc, j - k, pl.le, pl.ri, pl.cc, nr);
         kb += 1;
     }
 }
 
 // For nr rows from `row`: adds the products of the columns from jb * cc, cc at most, with each column up to them.
-fn column(
-    m: &[f64],
-    p: usize,
-    row: usize,
-    nr: usize,
-    s: &mut [f64],
-    ce: usize,
-    sc: usize,
-    le: usize,
-    ri: usize,
-    cc: usize,
-    ga: usize,
-    jb: usize,
-)
-    requires { ⌜ Column (now m) p row nr (now s) ce sc le ri cc ga jb ⌝ }
-    ensures { λ _. ⌜ Like le (ri + nr * cc) (now (s .exit)) (advanced (now (m .entry)) p row nr (now (s .entry)) ce sc ga (jb * cc) (tri (jb * cc))
-        (least (p - jb * cc) cc)) ⌝ }
+fn column(m: &[f64], p: usize, row: usize, nr: usize, s: &mut [f64], pl: GramPlaces, jb: usize)
+    requires { ⌜ Column (now m) p row nr (now s) pl jb ⌝ }
+    ensures { λ _. ⌜ Like (pl .le) (pl .ri + nr * pl .cc) (now (s .exit)) (advanced (now (m .entry)) p row nr (now (s .entry)) pl (jb * pl .cc)
+        (tri (jb * pl .cc)) (least (p - jb * pl .cc) (pl .cc))) ⌝ }
 {
-    let j = jb * cc;
-    let nj = least_of(p - j, cc);
-    fill_panel(m, p, row, nr, j, nj, s, ce, sc, le, cc);
-    pairs(m, p, row, nr, s, ce, sc, le, ri, cc, ga, jb, nj);
-    block(s, ga + j * p + j, p, nj, nj, 0, le, le, cc, nr);
+    let j = jb * pl.cc;
+    let nj = least_of(p - j, pl.cc);
+    fill_panel(m, p, row, nr, j, nj, s, pl.ce, pl.sc, pl.le, pl.cc);
+    pairs(m, p, row, nr, s, pl, jb, nj);
+    block(s, pl.ga + j * p + j, p, nj, nj, 0, pl.le, pl.le, pl.cc, nr);
 }
 
 // For nr rows from `row`: adds the products of all pairs of columns.
-fn row_block(
-    m: &[f64],
-    p: usize,
-    row: usize,
-    nr: usize,
-    s: &mut [f64],
-    ce: usize,
-    sc: usize,
-    le: usize,
-    ri: usize,
-    cc: usize,
-    ga: usize,
-)
-    requires { ⌜ Lie (now m) p row nr (now s) ce sc le ri cc ga ⌝ }
-    ensures { λ _. ⌜ Like le (ri + nr * cc) (now (s .exit)) (advancedLow (now (m .entry)) p row nr (now (s .entry)) ce sc ga p) ⌝ }
+fn row_block(m: &[f64], p: usize, row: usize, nr: usize, s: &mut [f64], pl: GramPlaces)
+    requires { ⌜ Lie (now m) p row nr (now s) pl ⌝ }
+    ensures { λ _. ⌜ Like (pl .le) (pl .ri + nr * pl .cc) (now (s .exit)) (advancedLow (now (m .entry)) p row nr (now (s .entry)) pl p) ⌝ }
 {
     let mut jb = 0usize;
     let mut j = 0usize;
     while j < p {
-        column(m, p, row, nr, s, ce, sc, le, ri, cc, ga, jb);
+        column(m, p, row, nr, s, pl, jb);
         jb += 1;
-        j += cc;
+        j += pl.cc;
     }
 }
 
 // Adds the products of all n rows, in blocks of rr.
-fn rows(
-    m: &[f64],
-    n: usize,
-    p: usize,
-    rr: usize,
-    s: &mut [f64],
-    ce: usize,
-    sc: usize,
-    le: usize,
-    ri: usize,
-    cc: usize,
-    ga: usize,
-)
-    requires { ⌜ Rows (now m) n p rr (now s) ce sc le ri cc ga ⌝ }
-    requires { ⌜ Clear (now s) p ga ⌝ }
-    ensures { λ _. ⌜ Like le (ri + rr * cc) (now (s .exit)) (mat (now (s .entry)) ga p low (entry (cell (now (m .entry)) p (now (s .entry)) ce sc) n) p) ⌝ }
+fn rows(m: &[f64], n: usize, p: usize, rr: usize, s: &mut [f64], pl: GramPlaces)
+    requires { ⌜ Rows (now m) n p rr (now s) pl ⌝ }
+    requires { ⌜ Clear (now s) p (pl .ga) ⌝ }
+    ensures { λ _. ⌜ Like (pl .le) (pl .ri + rr * pl .cc) (now (s .exit)) (mat (now (s .entry)) (pl .ga) p low
+        (entry (cell (now (m .entry)) p (now (s .entry)) (pl .ce) (pl .sc)) n) p) ⌝ }
 {
     let mut row = 0usize;
     while row < n {
         let nr = least_of(n - row, rr);
-        row_block(m, p, row, nr, s, ce, sc, le, ri, cc, ga);
+        row_block(m, p, row, nr, s, pl);
         row += nr;
     }
 }
@@ -173,7 +143,7 @@ fn mirror_row(s: &mut [f64], to: usize, from: usize, p: usize, n: usize)
 // The upper triangle from the lower.
 fn mirror(s: &mut [f64], ga: usize, p: usize)
     requires { ⌜ ga + p * p ≤ length (now s) ⌝ }
-    ensures { λ _. ⌜ now (s .exit) ≡ mat (now (s .entry)) (ga + 1) (p + 1) (right-of p) (turned (now (s .entry)) ga p) p ⌝ }
+    ensures { λ _. ⌜ now (s .exit) ≡ mat (now (s .entry)) (ga + 1) (p + 1) (right-of p) (fromBelow (now (s .entry)) ga p) p ⌝ }
 {
     let mut k = 0usize;
     while k < p {
@@ -190,23 +160,19 @@ fn fill_gram(
     p: usize,
     rr: usize,
     s: &mut [f64],
-    ce: usize,
-    sc: usize,
-    le: usize,
-    ri: usize,
-    cc: usize,
-    ga: usize,
+    pl: GramPlaces,
     gg: f64,
     pp: f64,
 )
-    requires { ⌜ Rows (now m) n p rr (now s) ce sc le ri cc ga ⌝ }
-    ensures { λ _. ⌜ Like le (ri + rr * cc) (now (s .exit)) (put (now (s .entry)) ga (gramAt n p gg pp (now (m .entry)) (now (s .entry)) ce sc)) ⌝ }
+    requires { ⌜ Rows (now m) n p rr (now s) pl ⌝ }
+    ensures { λ _. ⌜ Like (pl .le) (pl .ri + rr * pl .cc) (now (s .exit)) (put (now (s .entry)) (pl .ga)
+        (gramAt n p gg pp (now (m .entry)) (now (s .entry)) (pl .ce) (pl .sc))) ⌝ }
 {
-    clear_low(s, ga, p);
-    rows(m, n, p, rr, s, ce, sc, le, ri, cc, ga);
-    augment(s, ga, p, gg, pp);
-    mirror(s, ga, p);
-    sweep(s, ga, p * p);
+    clear_low(s, pl.ga, p);
+    rows(m, n, p, rr, s, pl);
+    augment(s, pl.ga, p, gg, pp);
+    mirror(s, pl.ga, p);
+    sweep(s, pl.ga, p * p);
 }
 
 // Writes the Gram of the design that is not stored: by panels that of the normalised matrix, then times gamma squared, with padding squared added to the
@@ -218,20 +184,14 @@ pub fn gram(m: &[f64], sh: Sizes, t: Terms, s: &mut [f64], l: Places)
     let le = l.left;
     let gg = t.gamma * t.gamma;
     let pp = t.padding * t.padding;
-    fill_gram(
-        m,
-        sh.n,
-        sh.p,
-        sh.pr,
-        s,
-        l.centre,
-        l.scale,
-        le,
-        l.right,
-        sh.pc,
-        l.gram,
-        gg,
-        pp,
-    );
+    let pl = GramPlaces {
+        ce: l.centre,
+        sc: l.scale,
+        le: le,
+        ri: l.right,
+        cc: sh.pc,
+        ga: l.gram,
+    };
+    fill_gram(m, sh.n, sh.p, sh.pr, s, pl, gg, pp);
     fill(s, le, l.sums - le, 0.0);
 }

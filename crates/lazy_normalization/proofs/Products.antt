@@ -30,15 +30,15 @@ abbrev pub columnSum : List Float → List Float → ℕ → Places → ℕ → 
 columnSum m s p l v nv i j = products plus0 (λ k. design m s p l k j) (λ k. part s v nv ! k) i
 
 -- what the products read
-record Kept (s₀ s : List Float) (p : ℕ) (l : Places) (v nv : ℕ) : Type 0 where
+record Unwritten (s₀ s : List Float) (p : ℕ) (l : Places) (v nv : ℕ) : Type 0 where
   pub centres : part s (l .centre) p ≡ part s₀ (l .centre) p
   pub scales : part s (l .scale) p ≡ part s₀ (l .scale) p
   pub reciprocals : part s (l .recip) p ≡ part s₀ (l .recip) p
   pub vector : part s v nv ≡ part s₀ v nv
 
-kept-of : {m : List Float} {n p : ℕ} {s₁ : List Float} {l : Places} {v nv out no : ℕ} → Reads m n p s₁ l v nv out no
-    → {s₀ s : List Float} {k i : ℕ} {f : ℕ → Float} → k ≤ no → Made s₀ out k f s i → Kept s₀ s p l v nv
-kept-of {p = p} {l = l} {v} {nv} r q d = record {
+unwritten-of : {m : List Float} {n p : ℕ} {s₁ : List Float} {l : Places} {v nv out no : ℕ} → Reads m n p s₁ l v nv out no
+    → {s₀ s : List Float} {k i : ℕ} {f : ℕ → Float} → k ≤ no → Made s₀ out k f s i → Unwritten s₀ s p l v nv
+unwritten-of {p = p} {l = l} {v} {nv} r q d = record {
   centres = part-kept d (l .centre) p (λ h. omega (arith, r .off-columns (omega arith)));
   scales = part-kept d (l .scale) p (λ h. omega (arith, r .off-columns (omega arith)));
   reciprocals = part-kept d (l .recip) p (λ h. omega (arith, r .off-columns h));
@@ -51,14 +51,14 @@ module _ {m : List Float} {n p : ℕ} {s₁ : List Float} {l : Places} {v out : 
     (d : Made s₀ out n (λ k. rowSum m s₀ p l v k ⊗ t .gamma) s i) where
   pub rows-more : {x : Float} → i < n → x ≡ rowSum m s p l v i → Made s₀ out n (λ k. rowSum m s₀ p l v k ⊗ t .gamma) (set s (out + i) (x ⊗ t .gamma)) (i + 1)
   rows-more {x} h e =
-      let k = kept-of r (omega arith) d in
+      let k = unwritten-of r (omega arith) d in
       made-more d (x ⊗ t .gamma) h (rw (e, k .centres, k .scales, k .reciprocals, k .vector))
 
   pub rows-all : (u : List Float) → n ≤ i → u ≡ put s (out + n) (mapOf (λ (y : Float). t .padding ⊗ y) p (part s v p))
       → u ≡ put s₀ out (tab (λ k. rowSum m s₀ p l v k ⊗ t .gamma) n ++ tab (λ j. t .padding ⊗ part s₀ v p ! j) p)
   unfolding mapOf
   rows-all u h e =
-      let k = kept-of r (omega arith) d in
+      let k = unwritten-of r (omega arith) d in
       let sums = tab (λ k. rowSum m s₀ p l v k ⊗ t .gamma) n in
       let tail = tab (λ j. t .padding ⊗ part s₀ v p ! j) p in
       rw (k .vector, made-all d h) at e ∙ ap (λ (a : ℕ). put (put s₀ out sums) (out + a) tail) (sym (length-tab _ n)) ∙ put-append s₀ out sums tail
@@ -84,7 +84,7 @@ module _ {m : List Float} {n p : ℕ} {s₁ : List Float} {l : Places} {v out : 
   columns-more u h e = made-again d _ u (e ∙ ap (put s out) (tab-ext _ _ p (λ j q. fold-turn _ _ _ i _ _ (sums j q) (term j)))) where
     term : (j : ℕ) → design m s p l i j ⊗ s ! (v + i) ≡ design m s₀ p l i j ⊗ part s₀ v (n + p) ! i
     term j =
-        let k = kept-of r (omega arith) d in
+        let k = unwritten-of r (omega arith) d in
         rw (k .centres, k .scales, k .reciprocals, ← k .vector, getD-part s v (n + p) i nan (omega arith))
 
   pub columns-all : (t : Terms) (u : List Float)
@@ -94,7 +94,7 @@ module _ {m : List Float} {n p : ℕ} {s₁ : List Float} {l : Places} {v out : 
   columns-all t u e = made-again d _ u (e ∙ ap (put s out) (tab-ext _ _ p (λ j q. rw (sums j q, tail j q)))) where
     tail : (j : ℕ) → j < p → part s (v + n) p ! j ≡ part s₀ v (n + p) ! (n + j)
     tail j q =
-        let k = kept-of r (omega arith) d in
+        let k = unwritten-of r (omega arith) d in
         rw (← k .vector, getD-part s (v + n) p j nan q, getD-part s v (n + p) (n + j) nan (omega arith), add-assoc)
 
 -- `fill` wrote the same elements, and nothing that is read
@@ -105,5 +105,5 @@ pub columns-end : {m : List Float} {n p : ℕ} {s₁ : List Float} {l : Places} 
 unfolding fillOf lazyColumns
 columns-end {p = p} {out = out} r t s₀ {s} {u} e d =
     let f = made-of s₀ out p (λ k. plus0) s e in
-    let k = kept-of r (omega arith) f in
+    let k = unwritten-of r (omega arith) f in
     rw (k .centres, k .scales, k .reciprocals, k .vector) at (made-again f _ u (d .is) .is)

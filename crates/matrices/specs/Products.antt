@@ -21,7 +21,7 @@ unfoldable pub columnsOf : List Float → ℕ → ℕ → List Float → List Fl
 columnsOf m rows cols xs = tab (columnProduct m rows cols xs) cols
 
 -- a matrix of `all` elements and a vector of n in s, and room for k more in none of them
-pub record Within (s : List Float) (mat all v n out k : ℕ) : Type 0 where
+pub record Together (s : List Float) (mat all v n out k : ℕ) : Type 0 where
   pub matrix : mat + all ≤ length s
   pub vector : v + n ≤ length s
   pub room : out + k ≤ length s

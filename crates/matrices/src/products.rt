@@ -6,11 +6,11 @@ ghost use mathlib.Core.Path.{_≡_};
 ghost use Prim.Native.Nat.{_+_, _*_, _≤_, _<_};
 ghost use lib.ListN.{length};
 ghost use Rattle.arrays.specs.Part.{part, put};
-ghost use Rattle.matrices.specs.Products.{rowsOf, columnsOf, columnProduct, Within, Beside};
+ghost use Rattle.matrices.specs.Products.{rowsOf, columnsOf, columnProduct, Together, Beside};
 
 // The matrix at `mat` times the vector at v, a row at a time.
 pub fn rows(s: &mut [f64], mat: usize, rows: usize, cols: usize, v: usize, out: usize)
-    requires { ⌜ Within (now s) mat (rows * cols) v cols out rows ⌝ }
+    requires { ⌜ Together (now s) mat (rows * cols) v cols out rows ⌝ }
     ensures { λ _. ⌜ now (s .exit) ≡ put (now (s .entry)) out (rowsOf (part (now (s .entry)) mat (rows * cols)) rows cols (part (now (s .entry)) v cols)) ⌝ }
 {
     let mut at = mat;
@@ -25,7 +25,7 @@ pub fn rows(s: &mut [f64], mat: usize, rows: usize, cols: usize, v: usize, out: 
 
 // The transposed matrix at `mat` times the vector at v: each row is added to all sums at once, so that memory is read in its order.
 pub fn columns(s: &mut [f64], mat: usize, rows: usize, cols: usize, v: usize, out: usize)
-    requires { ⌜ Within (now s) mat (rows * cols) v rows out cols ⌝ }
+    requires { ⌜ Together (now s) mat (rows * cols) v rows out cols ⌝ }
     ensures { λ _. ⌜ now (s .exit) ≡ put (now (s .entry)) out (columnsOf (part (now (s .entry)) mat (rows * cols)) rows cols (part (now (s .entry)) v rows)) ⌝ }
 {
     fill(s, out, cols, 0.0);

@@ -2,17 +2,15 @@
 use mathlib.Core.Path.{_≡_}
 use mathlib.Core.List.{List}
 use Prim.Native.Nat.{_+_, _≤_}
-use native.Mathlib.Nat.{mul-le-mul, le-refl}
 use native.Mathlib.Omega.{arith}
 use lib.ListN.{length}
 use lib.Ieee.{Float}
 use Rattle.layout.specs.declared.Sizes.{Sizes}
 use Rattle.layout.specs.declared.Places.{Places}
 use Rattle.layout.specs.Slots.{Room}
-use Rattle.lazy_gram.specs.Gram.{Lent as Grams}
 use Rattle.design.specs.Mode.{Held}
 use Rattle.design.specs.Statistics.{Given}
-use Rattle.design.proofs.Lengths.{held-on}
+use Rattle.beginning.proofs.Starts.{begins-on}
 use Rattle.measure.specs.Measure.{Lent}
 
 pub as-long : {sh : Sizes} {l : Places} {s t : List Float} → Room sh l s → length t ≡ length s → Room sh l t
@@ -20,20 +18,12 @@ as-long h e = record { room = omega (arith, h .room); laid = h .laid }
 
 module _ {sh : Sizes} {l : Places} {m given s : List Float} (h : Lent sh l m given s) where
   pub still : {t : List Float} → length t ≡ length s → Lent sh l m given t
-  still e = record { held = held-on (h .held) e; fits = h .fits; panels = h .panels }
+  still e = record { begins = begins-on (h .begins) e; vectors = h .vectors }
 
-  pub lazy-gram : sh .rows ≡ 0 → Grams sh l m s
-  lazy-gram e =
-      let f = h .fits in
-      record {
-        room = h .held .room;
-        matrix = h .held .matrix;
-        rows = omega (arith, f .matrix, mul-le-mul (le-refl (sh .n)) (f .some-columns));
-        columns = f .some-columns;
-        panel-rows = h .panels e .some-rows;
-        panel-columns = h .panels e .some-columns;
-        small = omega (arith, f .rows, f .columns);
-      }
+  pub held : Held sh l m s
+  held =
+      let b = h .begins in
+      record { room = b .room; matrix = omega (arith, b .matrix); rows = b .rows; columns = b .columns; all = b .all; stored = b .stored }
 
 module _ {sh : Sizes} {l : Places} {m s : List Float} (h : Held sh l m s) where
   pub matrix-given : Given sh l m s

@@ -1,8 +1,11 @@
-// Pieces of a fit, each `count` times on lent scratch, for tools/speed. The answer is the place of the result in the scratch, or 0 where a size is wrong and
-// nothing was done.
+// Pieces of a fit, each `count` times on lent scratch, for tools/speed. The answer is the place of the result in the scratch, or 0 where a size or a setting is
+// wrong and nothing was done.
 use arrays::scan::Found;
 use arrays::vectors::copy_from;
 use bg_solver::shared::Turned;
+use c_values::SETTINGS_WORDS;
+use c_values::settings_from;
+use checks::limits;
 use design::mode::matvec;
 use design::mode::transposed;
 use design::statistics::first_constant;
@@ -11,15 +14,13 @@ use layout::Places;
 use layout::Sizes;
 use layout::need;
 use layout::place;
-use settings::Settings;
+use layout::sizes_of;
+use refusal::Checked;
 use settings::Terms;
 use settings::terms_of;
-ghost use mathlib.Core.Path.{_≡_};
-ghost use mathlib.Core.Bool.{true};
-ghost use Prim.Native.Nat.{_≤_};
 ghost use Rattle.layout.specs.Slots.{Room};
 ghost use Rattle.design.specs.Mode.{Held};
-ghost use Rattle.measure.specs.Measure.{Fits, Panels, Lent};
+ghost use Rattle.measure.specs.Measure.{Lent};
 
 // The solver inside a fit: its first lines, and `count` rounds. `given` has d1, d2, prb, prs, dxu and grad, in the order of the scratch.
 #[no_mangle]
@@ -47,7 +48,8 @@ pub extern "C" fn measure_round(
         n: 1,
         p: p,
         k: p + 1,
-        rows: 0,
+        lazy: true,
+        stored: 0,
         pr: 0,
         pc: 0,
     };
@@ -77,126 +79,34 @@ fn rounds(s: &mut [f64], sh: Sizes, l: Places, tol: f64, count: usize)
     }
 }
 
-// A piece of the work with a stored design; `piece` says which, and what `given` is.
+// A piece of the work of a fit that normalises, whatever its settings say, and stores its design or not; `piece` says which, and what `given` is. What is lent is
+// checked as a start's is.
 #[no_mangle]
-pub extern "C" fn measure_eager(
+pub extern "C" fn measure_piece(
     what: usize,
     m: &[f64],
     given: &[f64],
     n: usize,
     p: usize,
-    alpha: f64,
-    l1_ratio: f64,
+    settings: &[u64],
     count: usize,
     s: &mut [f64],
 ) -> usize {
-    if !fits(m, given, n, p) {
+    if settings.len() != SETTINGS_WORDS {
         return 0;
     }
-    let sh = Sizes {
-        n: n,
-        p: p,
-        k: n + p,
-        rows: n + p,
-        pr: 0,
-        pc: 0,
+    let st = settings_from(settings);
+    let c = limits(n, p, m.len(), n, p, st, s.len());
+    let Checked::Fine = c else {
+        return 0;
     };
-    if s.len() < need(sh) {
+    if given.len() != n + 2 * p {
         return 0;
     }
+    let sh = sizes_of(n, p, st);
     let l = place(sh);
-    let t = terms(alpha, l1_ratio, n);
+    let t = terms_of(st, n);
     repeat(what, m, given, sh, t, s, l, count)
-}
-
-// The same with a design that is not stored, and panels of pr by pc.
-#[no_mangle]
-pub extern "C" fn measure_lazy(
-    what: usize,
-    m: &[f64],
-    given: &[f64],
-    n: usize,
-    p: usize,
-    alpha: f64,
-    l1_ratio: f64,
-    pr: usize,
-    pc: usize,
-    count: usize,
-    s: &mut [f64],
-) -> usize {
-    if !fits(m, given, n, p) {
-        return 0;
-    }
-    if !panels(pr, pc) {
-        return 0;
-    }
-    let sh = Sizes {
-        n: n,
-        p: p,
-        k: n + p,
-        rows: 0,
-        pr: pr,
-        pc: pc,
-    };
-    if s.len() < need(sh) {
-        return 0;
-    }
-    let l = place(sh);
-    let t = terms(alpha, l1_ratio, n);
-    repeat(what, m, given, sh, t, s, l, count)
-}
-
-// A matrix of n by p, and vectors of p and of n + p.
-fn fits(m: &[f64], given: &[f64], n: usize, p: usize) -> bool
-    ensures { λ r. ⌜ (r ≡ true → Fits (now (m .entry)) (now (given .entry)) n p) ⌝ }
-{
-    if n < 1 {
-        return false;
-    }
-    if n > 4096 {
-        return false;
-    }
-    if p < 1 {
-        return false;
-    }
-    if p > 64 {
-        return false;
-    }
-    if m.len() != n * p {
-        return false;
-    }
-    given.len() == n + 2 * p
-}
-
-fn panels(pr: usize, pc: usize) -> bool
-    ensures { λ r. ⌜ (r ≡ true → Panels pr pc) ⌝ }
-{
-    if pr < 1 {
-        return false;
-    }
-    if pr > 256 {
-        return false;
-    }
-    if pc < 1 {
-        return false;
-    }
-    pc <= 32
-}
-
-fn terms(alpha: f64, l1_ratio: f64, n: usize) -> Terms
-    requires { ⌜ n ≤ 4096 ⌝ }
-{
-    let st = Settings {
-        alpha: alpha,
-        l1_ratio: l1_ratio,
-        tol: 0.0,
-        rounds: 0,
-        panel_rows: 0,
-        panel_cols: 0,
-        normalise: true,
-        lazy: false,
-    };
-    terms_of(st, n)
 }
 
 fn repeat(
@@ -269,7 +179,7 @@ fn ready(m: &[f64], given: &[f64], sh: Sizes, s: &mut [f64], l: Places)
 fn stored(m: &[f64], sh: Sizes, t: Terms, s: &mut [f64], l: Places) -> usize
     requires { ⌜ Held sh l (now m) (now s) ⌝ }
 {
-    if sh.rows == 0 {
+    if sh.lazy {
         return 0;
     }
     design::eager::augment(m, sh, true, t, s, l);
@@ -279,7 +189,7 @@ fn stored(m: &[f64], sh: Sizes, t: Terms, s: &mut [f64], l: Places) -> usize
 fn gram(m: &[f64], given: &[f64], sh: Sizes, t: Terms, s: &mut [f64], l: Places) -> usize
     requires { ⌜ Lent sh l (now m) (now given) (now s) ⌝ }
 {
-    if sh.rows == 0 {
+    if sh.lazy {
         lazy_gram::gram(m, sh, t, s, l);
         return l.gram;
     }

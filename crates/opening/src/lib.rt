@@ -59,7 +59,7 @@ pub fn open(
     Opened::Ready(Scalars {
         t: t,
         dual: g.dual,
-        tol: pcg,
+        pcgtol: pcg,
         bnrm: bnrm,
         ..a
     })

@@ -6,13 +6,13 @@ use mathlib.Core.List.{List, _∷_}
 use Rattle.pause.specs.Progress.{Always, calls, total}
 use Rattle.pause.specs.Parts.{Parts, Counts, round+, solver+, trial+, made}
 use Rattle.pause.specs.Paused.{State, opening, solving, searching, countsOf, Pending, step, call, start}
-use Rattle.pause.specs.Bounds.{OpeningIn, Within, Counted, EndIn, EndWithin}
+use Rattle.pause.specs.Bounds.{OpeningIn, StageIn, Counted, EndIn, EndWithin}
 use Rattle.pause.proofs.Cases.{Cases, step-cases}
 use Rattle.pause.proofs.Budgets.{call-rule, calls-are-one}
 
 module _ {X S : Type 0} (F : Parts X S) (M : ℕ) where
   pub start-counted : (s : S) → Counted F M 0 (start s)
-  unfolding Within countsOf made
+  unfolding StageIn countsOf made
   start-counted s = omega arith
 
   at-end : (r : ℕ) (c : Counts) → OpeningIn F M r c → EndIn F M c
@@ -20,7 +20,7 @@ module _ {X S : Type 0} (F : Parts X S) (M : ℕ) where
 
   module _ (some-solves : 1 ≤ F .solves) (some-trials : 1 ≤ F .trials) where
     pub step-counts : (n : ℕ) (x : State S) → Pending M x → Counted F M n x → Always (Counted F M (suc n)) (EndWithin F M) (step F M x)
-    unfolding Pending Within EndWithin countsOf made round+ solver+ trial+
+    unfolding Pending StageIn EndWithin countsOf made round+ solver+ trial+
     step-counts n x p h = step-cases F M (Counted F M (suc n)) (EndWithin F M) x (go x p h)
       where
         go : (x : State S) → Pending M x → Counted F M n x → Cases F M (Counted F M (suc n)) (EndWithin F M) x
@@ -34,7 +34,7 @@ module _ {X S : Type 0} (F : Parts X S) (M : ℕ) where
 
     -- ONE CALL: as many steps as its budget says, or an end
     pub call-counts : (b n : ℕ) (x : State S) → Counted F M n x → Always (Counted F M (n + b)) (EndWithin F M) (call F M b x)
-    unfolding Within EndWithin
+    unfolding StageIn EndWithin
     call-counts = call-rule F M (Counted F M) (EndWithin F M) (λ n r c s l h. at-end r c (h .within)) step-counts
 
     -- AT EVERY PAUSE AND END

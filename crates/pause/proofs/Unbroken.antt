@@ -6,9 +6,9 @@ use mathlib.Core.Path.{_≡_, ap, sym}
 use mathlib.Core.List.{List, [], _∷_}
 use Rattle.pause.specs.Progress.{Progress, over, going, then, Always, Any, calls, total}
 use Rattle.pause.specs.Parts.{Parts, made, End}
-use Rattle.pause.specs.Unbroken.{Work, work, openRound, solve, lineSearch, oneRound, manyRounds, close, unbroken}
+use Rattle.pause.specs.Unbroken.{Reached, reached, openRound, solve, lineSearch, oneRound, manyRounds, close, unbroken}
 use Rattle.pause.specs.Paused.{State, opening, solving, searching, countsOf, Pending, step, call, start}
-use Rattle.pause.specs.Bounds.{Within, Counted, EndWithin}
+use Rattle.pause.specs.Bounds.{StageIn, Counted, EndWithin}
 use Rattle.pause.proofs.Steps.{always-both}
 use Rattle.pause.proofs.Cases.{Cases, step-cases}
 use Rattle.pause.proofs.Budgets.{call-rule, calls-are-one, pending-at-pauses}
@@ -22,21 +22,21 @@ suc-sub-one n = omega arith
 
 module _ {X S : Type 0} (F : Parts X S) (M : ℕ) where
   -- how the unbroken fit ends from what round r's search leaves, and from what its solver leaves
-  fromSearch : ℕ → Progress (End X S) (Work S) → End X S
+  fromSearch : ℕ → Progress (End X S) (Reached S) → End X S
   fromSearch r m = close (then m (manyRounds F (M - (r + 1)) (r + 1)))
 
-  fromSolve : ℕ → Progress (End X S) (Work S) → End X S
+  fromSolve : ℕ → Progress (End X S) (Reached S) → End X S
   fromSolve r m = fromSearch r (then m (lineSearch F (F .trials)))
 
   -- how the unbroken fit ends from a stage on
   pub finish : State S → End X S
-  finish (opening r c s) = close (manyRounds F (M - r) r (work c s))
-  finish (solving r k c s) = fromSolve r (solve F (suc (F .solves) - k) k (work c s))
-  finish (searching r j c s) = fromSearch r (lineSearch F (F .trials - j) (work c s))
+  finish (opening r c s) = close (manyRounds F (M - r) r (reached c s))
+  finish (solving r k c s) = fromSolve r (solve F (suc (F .solves) - k) k (reached c s))
+  finish (searching r j c s) = fromSearch r (lineSearch F (F .trials - j) (reached c s))
 
   -- a step leads to the end that was to come
-  leads-cases : (u : End X S) (x : State S) → Pending M x → Within F M x → finish x ≡ u → Cases F M (λ y. finish y ≡ u) (λ e. e ≡ u) x
-  unfolding Pending Within finish fromSolve fromSearch close then manyRounds oneRound openRound solve lineSearch
+  leads-cases : (u : End X S) (x : State S) → Pending M x → StageIn F M x → finish x ≡ u → Cases F M (λ y. finish y ≡ u) (λ e. e ≡ u) x
+  unfolding Pending StageIn finish fromSolve fromSearch close then manyRounds oneRound openRound solve lineSearch
   leads-cases u (opening r c s) p w h =
       let g = rw (sub-step M r p) at h in
       record {
@@ -72,7 +72,7 @@ module _ {X S : Type 0} (F : Parts X S) (M : ℕ) where
 
   -- A PAUSE COMES EARLY: in fewer steps than M rounds can take
   pub pause-early : (n : ℕ) (x : State S) → Counted F M n x → Pending M x → n < M * (1 + F .solves + F .trials)
-  unfolding Pending Within countsOf made
+  unfolding Pending StageIn countsOf made
   pause-early n (opening r c s) h p = omega (arith, mul-le-mul-right (1 + F .solves + F .trials) p)
   pause-early n (solving r k c s) h p = omega (arith, mul-le-mul-right (1 + F .solves + F .trials) (h .within .inside))
   pause-early n (searching r j c s) h p = omega (arith, mul-le-mul-right (1 + F .solves + F .trials) (h .within .inside))

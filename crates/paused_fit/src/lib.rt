@@ -72,7 +72,7 @@ pub fn fit_in_pieces(
             w,
             first,
             second,
-            5100 * st.rounds,
+            5100 * st.max_iter,
         )),
         Started::Refused(r) => refused(r),
     }

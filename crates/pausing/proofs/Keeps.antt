@@ -18,7 +18,7 @@ use Rattle.layout.specs.Slots.{Store, _⟨_≔_⟩}
 use Rattle.layout.specs.Slots.{Slot.W, Slot.U, Slot.NEWW, Slot.NEWU, Slot.NEWF, Slot.NEWZ}
 use Rattle.newton.specs.Newton.{nextT}
 use Rattle.line_search.specs.Search.{facesOf, largestOf, decreases}
-use Rattle.bound.specs.Kept.{Kept}
+use Rattle.bound.specs.Guarded.{Guarded}
 use Rattle.bound.proofs.Kept.{kept-round, kept-later, kept-accept}
 use Rattle.inner_solver.specs.Inner.{turnStore}
 use Rattle.pause.specs.Invariant.{OfOpened, OfTurned, OfTried, Keeps}
@@ -46,11 +46,11 @@ module _ (sh : Sizes) (tm : Terms) (m : List Float) where
   Good = KeptData (sh .p)
 
   module _ (tol : Float) (n : ℕ) (a : Scalars) (few : n < 1006) where
-    ready-keeps : (t dual pcg : Float) (v : Store) → Kept (sh .p) (n + 1) t (v W) (v U) → OfOpened (Good (n + 1)) (readyBy sh a t dual pcg v)
+    ready-keeps : (t dual pcg : Float) (v : Store) → Guarded (sh .p) (n + 1) t (v W) (v U) → OfOpened (Good (n + 1)) (readyBy sh a t dual pcg v)
     unfolding readyBy
     ready-keeps t dual pcg v k = chosen (OfOpened (Good (n + 1))) (le pcg plus0) k (kept-by (begin-keeps sh v) k)
 
-    open-keeps : (r : ℕ) (gap dual : Float) (v : Store) → Kept (sh .p) n (a .t) (v W) (v U) → OfOpened (Good (n + 1)) (openBy sh tm m tol r a gap dual v)
+    open-keeps : (r : ℕ) (gap dual : Float) (v : Store) → Guarded (sh .p) n (a .t) (v W) (v U) → OfOpened (Good (n + 1)) (openBy sh tm m tol r a gap dual v)
     unfolding openBy
     open-keeps r gap dual v k =
         let t = nextT (sh .p) (a .s) gap (a .t) in
@@ -64,9 +64,9 @@ module _ (sh : Sizes) (tm : Terms) (m : List Float) where
       let u = gapStore sh tm m v in
       open-keeps tol n a few n (gapOf sh tm (a .dual) u) (dualOf sh (a .dual) u) u (kept-by (gap-keeps sh tm m v) k)
 
-  turn-to : (n : ℕ) (a : Scalars) (error bkden : Float) (v : Store) → Kept (sh .p) n (a .t) (v W) (v U) → OfTurned (Good n) (turnTo a error bkden v)
+  turn-to : (n : ℕ) (a : Scalars) (error bkden : Float) (v : Store) → Guarded (sh .p) n (a .t) (v W) (v U) → OfTurned (Good n) (turnTo a error bkden v)
   unfolding turnTo
-  turn-to n a error bkden v k = chosen (OfTurned (Good n)) (le error (a .tol)) k k
+  turn-to n a error bkden v k = chosen (OfTurned (Good n)) (le error (a .pcgtol)) k k
 
   turns-keep : (n k : ℕ) (d : Data) → Good n d → OfTurned (Good n) (turns sh k d)
   unfolding turns
@@ -94,27 +94,27 @@ module _ (sh : Sizes) (tm : Terms) (m : List Float) where
   unfolding newzStore _⟨_≔_⟩ upd
   newz-faces v = refl
 
-  taken-kept : {p n : ℕ} {t : Float} (v : Store) → Kept p n t (v NEWW) (v NEWU) → Kept p n t (takenStore v W) (takenStore v U)
+  taken-kept : {p n : ℕ} {t : Float} (v : Store) → Guarded p n t (v NEWW) (v NEWU) → Guarded p n t (takenStore v W) (takenStore v U)
   unfolding takenStore _⟨_≔_⟩ upd
   taken-kept v k = k
 
   module _ (n : ℕ) (a : Scalars) (L : T (unsigned (tm .lambda))) where
     -- both tests of an accepted trial
-    taken : (v : Store) → Moved v → Kept (sh .p) n (a .t) (v W) (v U) → lt (largestOf (2 * sh .p) (v NEWF)) plus0 ≡ true
-        → decreases (newphiOf sh tm (a .t) v) (a .phi) (a .s) (a .gdx) ≡ true → Kept (sh .p) n (a .t) (takenStore v W) (takenStore v U)
+    taken : (v : Store) → Moved v → Guarded (sh .p) n (a .t) (v W) (v U) → lt (largestOf (2 * sh .p) (v NEWF)) plus0 ≡ true
+        → decreases (newphiOf sh tm (a .t) v) (a .phi) (a .s) (a .gdx) ≡ true → Guarded (sh .p) n (a .t) (takenStore v W) (takenStore v U)
     unfolding newphiOf
     taken v k g below less =
         taken-kept v
         (kept-accept (sh .p) n (tm .lambda) (a .t) (dotOf (sh .k) (v NEWZ) (v NEWZ)) (a .phi) (a .s) (a .gdx) (v NEWW) (v NEWU) (k .columns) (k .bounds) L
         (g .barrier) (rw (k .faces) at below) (rw (k .faces) at less))
 
-    decide-keeps : (v : Store) → Moved v → Kept (sh .p) n (a .t) (v W) (v U) → lt (largestOf (2 * sh .p) (v NEWF)) plus0 ≡ true
+    decide-keeps : (v : Store) → Moved v → Guarded (sh .p) n (a .t) (v W) (v U) → lt (largestOf (2 * sh .p) (v NEWF)) plus0 ≡ true
         → OfTried (Good n) (decideBy a (newphiOf sh tm (a .t) v) v)
     unfolding decideBy
     decide-keeps v k g below =
         tested (OfTried (Good n)) (decreases (newphiOf sh tm (a .t) v) (a .phi) (a .s) (a .gdx)) (λ less. taken v k g below less) g
 
-    try-keeps : (v : Store) → Moved v → Kept (sh .p) n (a .t) (v W) (v U) → OfTried (Good n) (tryBy sh tm m a (largestOf (2 * sh .p) (v NEWF)) v)
+    try-keeps : (v : Store) → Moved v → Guarded (sh .p) n (a .t) (v W) (v U) → OfTried (Good n) (tryBy sh tm m a (largestOf (2 * sh .p) (v NEWF)) v)
     unfolding tryBy
     try-keeps v k g =
         tested (OfTried (Good n)) (lt (largestOf (2 * sh .p) (v NEWF)) plus0)

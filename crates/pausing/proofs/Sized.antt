@@ -118,7 +118,7 @@ module _ (sh : Sizes) where
 
   turn-to : (n : ℕ) (a : Scalars) (error bkden : Float) (v : Store) → Sized v → OfTurned (SizedData sh n) (turnTo a error bkden v)
   unfolding turnTo
-  turn-to n a error bkden v z = chosen (OfTurned (SizedData sh n)) (le error (a .tol)) z z
+  turn-to n a error bkden v z = chosen (OfTurned (SizedData sh n)) (le error (a .pcgtol)) z z
 
   turns-sized : (n k : ℕ) (d : Data) → SizedData sh n d → OfTurned (SizedData sh n) (turns sh k d)
   unfolding turns

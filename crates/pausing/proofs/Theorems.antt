@@ -13,7 +13,7 @@ use Rattle.layout.specs.declared.Sizes.{Sizes}
 use Rattle.layout.specs.Slots.{Store}
 use Rattle.layout.specs.Slots.{Slot.W, Slot.U}
 use Rattle.newton.specs.Newton.{startT}
-use Rattle.bound.specs.Kept.{Kept as KeptAt}
+use Rattle.bound.specs.Guarded.{Guarded}
 use Rattle.bound.proofs.Kept.{kept-start}
 use Rattle.pause.specs.Progress.{over, Always, calls, total}
 use Rattle.pause.specs.Paused.{call, start}
@@ -48,8 +48,8 @@ module _ (sh : Sizes) (tm : Terms) (tol : Float) (m : List Float) (M : ℕ) (v :
     pub first-kept : KeptData (sh .p) 0 first
     unfolding fresh
     first-kept =
-        subst (λ (ws : List Float). KeptAt (sh .p) 0 (startT (sh .p) (tm .lambda)) ws (v U)) (sym zeros)
-        (subst (λ (us : List Float). KeptAt (sh .p) 0 (startT (sh .p) (tm .lambda)) (fillOf plus0 (sh .p)) us) (sym ones)
+        subst (λ (ws : List Float). Guarded (sh .p) 0 (startT (sh .p) (tm .lambda)) ws (v U)) (sym zeros)
+        (subst (λ (us : List Float). Guarded (sh .p) 0 (startT (sh .p) (tm .lambda)) (fillOf plus0 (sh .p)) us) (sym ones)
         (kept-start (sh .p) (tm .lambda) some few))
 
     -- each weight is finite and strictly within its finite bound, and t is finite: at every pause, and at an end before the weights are rescaled

@@ -11,7 +11,7 @@ use Rattle.layout.specs.Slots.{Store, _⟨_≔_⟩}
 use Rattle.layout.specs.Slots.{Slot.W, Slot.U, Slot.NU, Slot.XNU}
 use Rattle.arrays.specs.Sums.{normInfOf}
 use Rattle.inner_solver.specs.Inner.{withWork, beginStore, turnStore}
-use Rattle.bound.specs.Kept.{Kept}
+use Rattle.bound.specs.Guarded.{Guarded}
 use Rattle.lasso_optimizer.specs.Opening.{residualStore, shrunkStore, gapStore, barrierStore, gradientStore, preconditionerStore, newtonStore}
 use Rattle.lasso_optimizer.specs.Trial.{movedStore, newzStore}
 
@@ -20,9 +20,9 @@ pub record Untouched (u v : Store) : Type 0 where
   pub weights : u W ≡ v W
   pub bounds : u U ≡ v U
 
-pub kept-by : {p n : ℕ} {t : Float} {u v : Store} → Untouched u v → Kept p n t (v W) (v U) → Kept p n t (u W) (u U)
+pub kept-by : {p n : ℕ} {t : Float} {u v : Store} → Untouched u v → Guarded p n t (v W) (v U) → Guarded p n t (u W) (u U)
 kept-by {p} {n} {t} {u} {v} e k =
-    subst (λ (ws : List Float). Kept p n t ws (u U)) (sym (e .weights)) (subst (λ (us : List Float). Kept p n t (v W) us) (sym (e .bounds)) k)
+    subst (λ (ws : List Float). Guarded p n t ws (u U)) (sym (e .weights)) (subst (λ (us : List Float). Guarded p n t (v W) us) (sym (e .bounds)) k)
 
 pub both : {u v w : Store} → Untouched u v → Untouched v w → Untouched u w
 both a b = record { weights = a .weights ∙ b .weights; bounds = a .bounds ∙ b .bounds }

@@ -2,10 +2,10 @@
 use mathlib.Core.Path.{_≡_, refl, ap, _∙_}
 use mathlib.Core.Bool.{Bool, true, false, cond}
 use mathlib.Core.List.{List}
-use Prim.Native.Nat.{ℕ, _≤_}
+use Prim.Native.Nat.{ℕ}
 use lib.Ieee.{Float}
 use Rattle.refusal.specs.declared.Failure.{Failure}
-use Rattle.refusal.specs.declared.Failure.the-variants.{Search, Tolerance}
+use Rattle.refusal.proofs.Numbers.{failures-placeless}
 use Rattle.numbers.specs.Ops.{_⊖_, _⊗_, _⊘_}
 use Rattle.arrays.specs.Sums.{meanOf, productOf}
 use Rattle.arrays.specs.Vectors.{mapOf, zipOf}
@@ -48,8 +48,7 @@ end-is sh x y st e (end convergedP c d) h g =
     ap (λ (o : ElasticNet). outcomeOf sh e (converged (countsOf c) o)) (rescaled-is (sh .n) (sh .p) x y st (storeOf d CENTRE) (storeOf d SCALE) (storeOf d W) h g)
 end-is sh x y st e (end limitP c d) h g =
     ap (λ (o : ElasticNet). outcomeOf sh e (limit (countsOf c) o)) (rescaled-is (sh .n) (sh .p) x y st (storeOf d CENTRE) (storeOf d SCALE) (storeOf d W) h g)
-end-is sh x y st e (end (failedP Search) c d) h g = refl
-end-is sh x y st e (end (failedP Tolerance) c d) h g = refl
+end-is sh x y st e (end (failedP f) c d) h g = rw (failures-placeless f)
 
 -- one of two sizes
 either : (P : Sizes → Type 0) (b : Bool) (a₁ a₂ : Sizes) → P a₁ → P a₂ → P (cond b a₁ a₂)
@@ -65,9 +64,9 @@ module _ (n p : ℕ) (x y : List Float) (st : Settings) where
       (lazySizes n p x y st) (eagerSizes n p x y st) (end-is (lazySizes n p x y st) x y st e u h g) (end-is (eagerSizes n p x y st) x y st e u h g)
 
   -- what the unbroken fit answers and leaves is smartcore's: coefficients, intercept, counts
-  pub answers-as-the-rust : (e : List Float) → 1 ≤ n
+  pub answers-as-the-rust : (e : List Float)
       → ending (sizesOf n p st) (st .normalise) (termsOf st n .gamma) y e (fitOf n p x y st) ≡ outcomeOf (sizesOf n p st) e (fit n p x y st)
   unfolding fit
-  answers-as-the-rust e some =
-      let h = fit-is n p x y st some in
+  answers-as-the-rust e =
+      let h = fit-is n p x y st in
       sized-end e (fitOf n p x y st) (h .centres) (h .scales) ∙ ap (λ (t : Fitted Point). outcomeOf (sizesOf n p st) e (modelOf n p x y st t)) (h .says)

@@ -102,43 +102,43 @@ module _ (n p : ℕ) (x y : List Float) (st : Settings) where
   sh = sizesOf n p st
 
   abbrev M : ℕ
-  M = st .rounds
+  M = st .«max_iter»
 
   -- what a record and a scratch must have for a call to be made on them: they are of the state z, k steps were made, the end u is to come,
   -- e is the scratch's excess, 1 to 4 and 9 do not refuse, and the weights are within their bounds
   pub record Poised (u : End Failure Data) (e : List Float) (k : ℕ) (z : State Data) (a : Paused) (s : List Float) : Type 0 where
     pub is : a ≡ pausedOf z
     pub holds : Has (sizesOf n p st) e (storeOf (dataOf z)) s
-    pub leads : Leads (partsOf n p x st) (st .rounds) u k z
-    pub passes : possibleOf (st .rounds) (pausedOf z) ≡ true
+    pub leads : Leads (partsOf n p x st) (st .«max_iter») u k z
+    pub passes : possibleOf (st .«max_iter») (pausedOf z) ≡ true
     pub fits : limitsOf n p (length x) (length y) p st (length s) ≡ Fine
     pub within : Kept (KeptData (sizesOf n p st .p)) z
 
   -- at settings that 3 does not refuse the parts keep the weights within their bounds
-  pub parts-within : (room : ℕ) → limitsOf n p (length x) (length y) p st room ≡ Fine → Keeps (KeptData (sizesOf n p st .p)) (partsOf n p x st) (st .rounds)
-  parts-within room f = parts-keep sh (termsOf st n) x (st .tol) M (allowed-says st (accepted f .settings) .rounds) (lambda-unsigned st n)
+  pub parts-within : (room : ℕ) → limitsOf n p (length x) (length y) p st room ≡ Fine → Keeps (KeptData (sizesOf n p st .p)) (partsOf n p x st) (st .«max_iter»)
+  parts-within room f = parts-keep sh (termsOf st n) x (st .tol) M (allowed-says st (accepted f .settings) .maxIter) (lambda-unsigned st n)
 
   module _ (u : End Failure Data) (e : List Float) (k : ℕ) (z : State Data) (a : Paused) (s : List Float) (g : Poised u e k z a s)
       (w : List Float) (l : length w ≡ p) (b : ℕ) (r : Resumed) (w′ s′ : List Float) (c : Resumes n p x y st a s w b r w′ s′) where
-    shows : outcome r w′ s′ ≡ shown (sizesOf n p st) (st .normalise) (termsOf st n .gamma) y e w (call (partsOf n p x st) (st .rounds) b z)
+    shows : outcome r w′ s′ ≡ shown (sizesOf n p st) (st .normalise) (termsOf st n .gamma) y e w (call (partsOf n p x st) (st .«max_iter») b z)
     shows =
         let f : resumeCheck n p x y st a s w ≡ Fine = rw (l, g .fits, g .is, g .passes) refl in
         rw (g .is, rest-of sh (g .holds), vars-of sh (g .holds), state-back z) at (resume-accepted n p x y st a s w b r w′ s′ c f)
 
-    goes : Always (Leads (partsOf n p x st) (st .rounds) u (k + b)) (λ t. t ≡ u) (call (partsOf n p x st) (st .rounds) b z)
+    goes : Always (Leads (partsOf n p x st) (st .«max_iter») u (k + b)) (λ t. t ≡ u) (call (partsOf n p x st) (st .«max_iter») b z)
     goes = call-leads (partsOf n p x st) M (some-solves n p x st) (some-trials n p x st) u b k z (g .leads)
 
     -- the sizes of all vectors, and the weights within their bounds
-    sizes-stay : Always (Kept (SizedData (sizesOf n p st))) (EndKept (SizedData (sizesOf n p st))) (call (partsOf n p x st) (st .rounds) b z)
+    sizes-stay : Always (Kept (SizedData (sizesOf n p st))) (EndKept (SizedData (sizesOf n p st))) (call (partsOf n p x st) (st .«max_iter») b z)
     sizes-stay =
         call-kept (partsOf n p x st) M (SizedData sh) (sizes-keep sh (termsOf st n) (st .tol) x M (proper n p st)) b z
         (record { opened-all = g .within .opened-all; holds = to-data sh _ (dataOf z) (g .holds .sized) })
 
-    weights-stay : Always (Kept (KeptData (sizesOf n p st .p))) (EndKept (KeptData (sizesOf n p st .p))) (call (partsOf n p x st) (st .rounds) b z)
+    weights-stay : Always (Kept (KeptData (sizesOf n p st .p))) (EndKept (KeptData (sizesOf n p st .p))) (call (partsOf n p x st) (st .«max_iter») b z)
     weights-stay = call-kept (partsOf n p x st) M (KeptData (sh .p)) (parts-within (length s) (g .fits)) b z (g .within)
 
     -- a call that ends, ends with u
-    pub ended-with : (t : End Failure Data) → call (partsOf n p x st) (st .rounds) b z ≡ over t
+    pub ended-with : (t : End Failure Data) → call (partsOf n p x st) (st .«max_iter») b z ≡ over t
         → outcome r w′ s′ ≡ ending (sizesOf n p st) (st .normalise) (termsOf st n .gamma) y e u
     unfolding shown
     ended-with t q =
@@ -146,11 +146,11 @@ module _ (n p : ℕ) (x y : List Float) (st : Settings) where
         rw (q, h) at shows
 
     -- and one that pauses is poised for the next, early, and says that it is pending
-    module _ (t : State Data) (q : call (partsOf n p x st) (st .rounds) b z ≡ going t) where
-      leads-on : Leads (partsOf n p x st) (st .rounds) u (k + b) t
+    module _ (t : State Data) (q : call (partsOf n p x st) (st .«max_iter») b z ≡ going t) where
+      leads-on : Leads (partsOf n p x st) (st .«max_iter») u (k + b) t
       leads-on = rw q at goes
 
-      pends : Pending (st .rounds) t
+      pends : Pending (st .«max_iter») t
       pends = rw q at (call-pends (partsOf n p x st) M b z)
 
       leaves : outcome r w′ s′ ≡ record { answer = pending; paused = pausedOf t; weights = w; scratch = flatly (sizesOf n p st) (storeOf (dataOf t)) e }
@@ -172,14 +172,14 @@ module _ (n p : ℕ) (x y : List Float) (st : Settings) where
             within = rw q at weights-stay;
           }
 
-      pub early : k + b < st .rounds * 5100
+      pub early : k + b < st .«max_iter» * 5100
       unfolding parts
       early = pause-early (partsOf n p x st) M (k + b) t (leads-on .counted) pends
 
       pub says-pending : said (r .answer) ≡ pending
       says-pending = ap (λ (o : Outcome). o .answer) leaves
 
-    pub says-ended : (t : End Failure Data) → call (partsOf n p x st) (st .rounds) b z ≡ over t → said (r .answer) ≡ pending → ⊥
+    pub says-ended : (t : End Failure Data) → call (partsOf n p x st) (st .«max_iter») b z ≡ over t → said (r .answer) ≡ pending → ⊥
     says-ended t q h = not-pending sh (st .normalise) (termsOf st n .gamma) y e u (sym (ap (λ (o : Outcome). o .answer) (ended-with t q)) ∙ h)
 
   -- AN ACCEPTED START poises the fit
@@ -209,7 +209,7 @@ module _ (n p : ℕ) (x y : List Float) (st : Settings) where
         let m : Has sh (rest sh s) v s₁ = record { is = o .1; sized = start-sized sh (st .normalise) (termsOf st n) x y (whole .all) (whole .stored) } in
         let long : length s₁ ≡ length s = length-of sh m ∙ sym (length-of sh (first-has sh s (accepted-room k))) in
         let f = start-fresh sh (st .normalise) (termsOf st n) x y in
-        let few = allowed-says st (k .settings) .rounds in
+        let few = allowed-says st (k .settings) .maxIter in
         record {
           is = rw (known .columns) j;
           holds = m;

@@ -16,7 +16,6 @@ use Rattle.lazy_normalization.specs.Lazy.{recipStore}
 use Rattle.lazy_gram.specs.Gram.{lazyGramStore}
 use Rattle.design.specs.Statistics.{statisticsStore, targetsStore}
 use Rattle.design.specs.Eager.{designStore, gramStore}
-use Rattle.design.specs.Mode.{isLazy}
 use Rattle.beginning.specs.Start.{blankStore, preparedStore, startStore}
 
 -- weights of +0, and bounds of 1
@@ -48,7 +47,7 @@ module _ (sh : Sizes) where
 
     prepared-fresh : (v : Store) → FreshIn (sh .p) v → FreshIn (sh .p) (preparedStore sh normalise tm m v)
     unfolding preparedStore
-    prepared-fresh v h = go (isLazy sh) where
+    prepared-fresh v h = go (sh .lazy) where
       go : (b : Bool) → FreshIn (sh .p) (cond b (lazyGramStore sh tm m (recipStore sh v)) (gramStore sh (designStore sh normalise tm m v)))
       go true = lazy-fresh v h
       go false = eager-fresh v h

@@ -1,5 +1,5 @@
 -- What holds at every pause, whatever the budgets, and at the unbroken fit's end: weights and counts are within their bounds. Assumes nothing.
-use Prim.Native.Nat.{ℕ, _≤_}
+use Prim.Native.Nat.{ℕ}
 use mathlib.Core.Path.{_≡_, refl, ap, sym, subst, _∙_}
 use mathlib.Core.List.{List}
 use lib.Ieee.{Float}
@@ -11,7 +11,7 @@ use Rattle.layout.specs.Slots.{Store, off}
 use Rattle.layout.proofs.Slots.{vars-of}
 use Rattle.layout.specs.Slots.{Slot.W, Slot.U}
 use Rattle.layout.specs.Need.{sizesOf}
-use Rattle.bound.specs.Kept.{Kept as KeptAt}
+use Rattle.bound.specs.Guarded.{Guarded}
 use Rattle.bound.proofs.Barrier.{bounded-finite}
 use Rattle.pause.specs.Progress.{total}
 use Rattle.pause.specs.Parts.{converged, limit, failed as failedP, made, End, end}
@@ -26,7 +26,7 @@ use Rattle.lasso_optimizer.specs.Fit.{parts, optimized}
 use Rattle.pausing.specs.Kept.{KeptData}
 use Rattle.records.specs.declared.Paused.{Paused}
 use Rattle.records.specs.Record.{countsBack, pausedOf}
-use Rattle.checks.proofs.Laws.{sizes-known, accepted}
+use Rattle.checks.proofs.Laws.{sizes-known}
 use Rattle.elastic_net.specs.declared.Resumed.{Resumed}
 use Rattle.elastic_net.specs.declared.Started.the-variants.{Ready as ReadyS}
 use Rattle.elastic_net.specs.ElasticNet.{pending, said}
@@ -42,7 +42,7 @@ use Rattle.promises.proofs.Pauses.{Pause, on-the-way}
 
 -- ---- what a pause's record and data have of its state
 
-of-kept : (p k : ℕ) (d : Data) → KeptData p k d → KeptAt p k (scalarsOf d .t) (storeOf d W) (storeOf d U)
+of-kept : (p k : ℕ) (d : Data) → KeptData p k d → Guarded p k (scalarsOf d .t) (storeOf d W) (storeOf d U)
 of-kept p k (held a v) h = h
 
 scalars-are : (z : State Data) → pausedOf z .scalars ≡ scalarsOf (dataOf z)
@@ -57,7 +57,7 @@ counts-are (opening r c d) = refl
 counts-are (solving r k c d) = refl
 counts-are (searching r j c d) = refl
 
-within-of : (p k : ℕ) (t : Float) (ws us : List Float) → KeptAt p k t ws us → Within p t ws us
+within-of : (p k : ℕ) (t : Float) (ws us : List Float) → Guarded p k t ws us → Within p t ws us
 within-of p k t ws us h = record { weights = h .inside; barrier = bounded-finite k t (h .barrier) }
 
 module _ (n p : ℕ) (x y : List Float) (st : Settings) where
@@ -80,7 +80,7 @@ module _ (n p : ℕ) (x y : List Float) (st : Settings) where
         (subst (λ (c : Scalars). Within (sh .p) (c .t) (part s (off sh W) (sh .p)) (part s (off sh U) (sh .p))) (sym b)
         (subst (λ (v : Store). Within (sh .p) (scalarsOf d .t) (v W) (v U)) (sym (vars-of sh (g .poised .holds))) h))
 
-    pause-counted : CountedAt (st .rounds) k a
+    pause-counted : CountedAt (st .«max_iter») k a
     unfolding made
     pause-counted = record {
       steps = rw (g .poised .is, counts-are (g .state)) (g .poised .leads .counted .steps);
@@ -94,7 +94,7 @@ module _ (n p : ℕ) (x y : List Float) (st : Settings) where
       pause-keeps = pause-within _ _ _ (r .paused) s₂ (on-the-way n p x y st s s₁ a h bs r w s₂ c pend)
 
       -- and the counts add up to the budgets given
-      pub pause-counts : CountedAt (st .rounds) (total bs) (r .paused)
+      pub pause-counts : CountedAt (st .«max_iter») (total bs) (r .paused)
       pause-counts = pause-counted _ _ _ (r .paused) s₂ (on-the-way n p x y st s s₁ a h bs r w s₂ c pend)
 
     -- BEFORE THE FIRST CALL they are so in the scratch that the start leaves
@@ -104,7 +104,7 @@ module _ (n p : ℕ) (x y : List Float) (st : Settings) where
     end-kept : EndKept (KeptData (sizesOf n p st .p)) (fitOf n p x y st)
     unfolding fitOf optimized countsOf dataOf
     end-kept =
-        unbroken-kept (partsOf n p x st) (st .rounds) (KeptData (sh .p)) (parts-within n p x y st _ (start-fits n p x y st s s₁ a h)) (some-solves n p x st)
+        unbroken-kept (partsOf n p x st) (st .«max_iter») (KeptData (sh .p)) (parts-within n p x y st _ (start-fits n p x y st s s₁ a h)) (some-solves n p x st)
         (some-trials n p x st) (firstData n p x y st) (start-poised n p x y st s s₁ a h .within .holds)
 
     data-within : (k : ℕ) (d : Data) → KeptData (sizesOf n p st .p) k d → Within p (scalarsOf d .t) (storeOf d W) (storeOf d U)
@@ -120,18 +120,18 @@ module _ (n p : ℕ) (x y : List Float) (st : Settings) where
     -- WHERE SMARTCORE'S ROUNDS END with weights, before they are rescaled
     pub end-keeps : EndWithin p (optimizeFit n p x y st)
     end-keeps =
-        subst (EndWithin p) (as-the-rust n p x y st (accepted (start-fits n p x y st s s₁ a h) .some-rows)) (told-within (fitOf n p x y st) end-kept)
+        subst (EndWithin p) (as-the-rust n p x y st) (told-within (fitOf n p x y st) end-kept)
 
-  told-counts : (u : End Failure Data) → InBounds (partsOf n p x st) (st .rounds) u → CountsWithin (st .rounds) (countsIn (told u))
+  told-counts : (u : End Failure Data) → InBounds (partsOf n p x st) (st .«max_iter») u → CountsWithin (st .«max_iter») (countsIn (told u))
   unfolding InBounds told countsFrom parts
   told-counts (end converged c d) k = record { openings = k .rounds-in; solver = k .solver-in; trials = k .trials-in }
   told-counts (end limit c d) k = record { openings = k .rounds-in; solver = k .solver-in; trials = k .trials-in }
   told-counts (end (failedP i) c d) k = record { openings = k .rounds-in; solver = k .solver-in; trials = k .trials-in }
 
-  -- THE COUNTS of a whole fit, of an input that has a row
-  pub counts-within : 1 ≤ n → CountsWithin (st .rounds) (countsIn (optimizeFit n p x y st))
+  -- THE COUNTS of a whole fit
+  pub counts-within : CountsWithin (st .«max_iter») (countsIn (optimizeFit n p x y st))
   unfolding fitOf optimized
-  counts-within some =
-      subst (λ (o : Fitted Point). CountsWithin (st .rounds) (countsIn o)) (as-the-rust n p x y st some)
+  counts-within =
+      subst (λ (o : Fitted Point). CountsWithin (st .«max_iter») (countsIn o)) (as-the-rust n p x y st)
       (told-counts (fitOf n p x y st)
-      (unbroken-counts (partsOf n p x st) (st .rounds) (some-solves n p x st) (some-trials n p x st) (firstData n p x y st)))
+      (unbroken-counts (partsOf n p x st) (st .«max_iter») (some-solves n p x st) (some-trials n p x st) (firstData n p x y st)))

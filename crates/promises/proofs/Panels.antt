@@ -38,9 +38,9 @@ module _ (n p : ℕ) (x y : List Float) (st : Settings) (R C : ℕ) where
   fits-are-one = models-are-one (optimizeFit n p x y (withPanels R C st)) ∙ ap (modelOf n p x y st) optimizers-are-one
 
   -- PANELS DO NOT MATTER: fits with panels of any two sizes, in any scratch and over any budgets, end with the same answer, counts and weights
-  pub panels-do-not-matter : (s s₁ : List Float) (a : Paused) → Starts n p x y st s (ReadyS a) s₁ → (b : ℕ) (bs : List ℕ) → Enough (st .rounds) (b ∷ bs)
+  pub panels-do-not-matter : (s s₁ : List Float) (a : Paused) → Starts n p x y st s (ReadyS a) s₁ → (b : ℕ) (bs : List ℕ) → Enough (st .«max_iter») (b ∷ bs)
       → (r : Resumed) (w s₂ : List Float) → Chain n p x y st (b ∷ bs) a s₁ r w s₂
-      → (s′ s₁′ : List Float) (a′ : Paused) → Starts n p x y (withPanels R C st) s′ (ReadyS a′) s₁′ → (b′ : ℕ) (bs′ : List ℕ) → Enough (st .rounds) (b′ ∷ bs′)
+      → (s′ s₁′ : List Float) (a′ : Paused) → Starts n p x y (withPanels R C st) s′ (ReadyS a′) s₁′ → (b′ : ℕ) (bs′ : List ℕ) → Enough (st .«max_iter») (b′ ∷ bs′)
       → (r′ : Resumed) (w′ s₂′ : List Float) → Chain n p x y (withPanels R C st) (b′ ∷ bs′) a′ s₁′ r′ w′ s₂′ → SameEnd r r′ w w′
   unfolding endedOf
   panels-do-not-matter s s₁ a h b bs enough r w s₂ c s′ s₁′ a′ h′ b′ bs′ enough′ r′ w′ s₂′ c′ =

@@ -17,7 +17,7 @@ use Rattle.pause.specs.Parts.{End}
 use Rattle.pause.specs.Paused.{State, call, start}
 use Rattle.lasso_optimizer.specs.Data.{Data}
 use Rattle.records.specs.declared.Paused.{Paused}
-use Rattle.checks.proofs.Laws.{accepted, sizes-known}
+use Rattle.checks.proofs.Laws.{sizes-known}
 use Rattle.records.specs.Records.{endedOf}
 use Rattle.ending.specs.End.{gone}
 use Rattle.elastic_net.specs.declared.Resumed.{Resumed}
@@ -29,7 +29,7 @@ use Rattle.unbroken_fit.specs.Unbroken.{fitOf}
 use Rattle.promises.specs.Chain.{Starts, Chain, last, more, Enough}
 use Rattle.promises.specs.Outcome.{countsIn, answered, answerOf, weightsIn, outcomeOf}
 use Rattle.promises.proofs.Answer.{answers-as-the-rust}
-use Rattle.promises.proofs.Calls.{partsOf, firstData, Poised, ended-with, poised-next, early, says-pending, says-ended, start-fits, start-poised}
+use Rattle.promises.proofs.Calls.{partsOf, firstData, Poised, ended-with, poised-next, early, says-pending, says-ended, start-poised}
 
 -- a state that a record and a scratch are poised in
 pub record Pause (n p : ℕ) (x y : List Float) (st : Settings) (u : End Failure Data) (e : List Float) (k : ℕ) (a : Paused) (s : List Float) : Type 0 where
@@ -41,11 +41,11 @@ module _ (n p : ℕ) (x y : List Float) (st : Settings) (u : End Failure Data) (
   Called = Progress (End Failure Data) (State Data)
 
   abbrev called : ℕ → State Data → Progress (End Failure Data) (State Data)
-  called b z = call (partsOf n p x st) (st .rounds) b z
+  called b z = call (partsOf n p x st) (st .«max_iter») b z
 
   -- calls from a state that leads to u end with u, once the budgets suffice
   chain-ends : (bs : List ℕ) (a : Paused) (s : List Float) (r : Resumed) (w′ s′ : List Float) → Chain n p x y st bs a s r w′ s′
-      → (k : ℕ) (z : State Data) → Poised n p x y st u e k z a s → st .rounds * 5100 ≤ k + total bs
+      → (k : ℕ) (z : State Data) → Poised n p x y st u e k z a s → st .«max_iter» * 5100 ≤ k + total bs
       → outcome r w′ s′ ≡ ending (sizesOf n p st) (st .normalise) (termsOf st n .gamma) y e u
   unfolding total
   chain-ends _ a s r w′ s′ (last {b} {bs} w l c stop) k z g enough = go (called b z) refl
@@ -55,12 +55,12 @@ module _ (n p : ℕ) (x y : List Float) (st : Settings) (u : End Failure Data) (
       go (going t) q =
           let none-left : bs ≡ [] = stop (says-pending n p x y st u e k z a s g w l b r w′ s′ c t q) in
           let few = early n p x y st u e k z a s g w l b r w′ s′ c t q in
-          let m : st .rounds * 5100 ≤ k + (b + total []) = rw none-left at enough in
+          let m : st .«max_iter» * 5100 ≤ k + (b + total []) = rw none-left at enough in
           absurd (omega arith)
   chain-ends _ a s r w′ s′ (more {b} {bs} w l r₁ w₁ s₁ c pend then) k z g enough =
       go (chain-ends bs (r₁ .paused) s₁ r w′ s′ then (k + b)) (called b z) refl
     where
-      go : ((t : State Data) → Poised n p x y st u e (k + b) t (r₁ .paused) s₁ → st .rounds * 5100 ≤ k + b + total bs
+      go : ((t : State Data) → Poised n p x y st u e (k + b) t (r₁ .paused) s₁ → st .«max_iter» * 5100 ≤ k + b + total bs
           → outcome r w′ s′ ≡ ending (sizesOf n p st) (st .normalise) (termsOf st n .gamma) y e u)
           → (q : Called) → called b z ≡ q → outcome r w′ s′ ≡ ending (sizesOf n p st) (st .normalise) (termsOf st n .gamma) y e u
       go rec (over t) q = absurd (says-ended n p x y st u e k z a s g w l b r₁ w₁ s₁ c t q pend)
@@ -97,7 +97,7 @@ pub record EndsAs (n p : ℕ) (st : Settings) (e : List Float) (o : Fitted Elast
 
 module _ (n p : ℕ) (x y : List Float) (st : Settings) (s s₁ : List Float) (a : Paused) (h : Starts n p x y st s (ReadyS a) s₁) where
   -- the end is that of the parts in nested loops
-  pub pause-theorem : (b : ℕ) (bs : List ℕ) → Enough (st .rounds) (b ∷ bs)
+  pub pause-theorem : (b : ℕ) (bs : List ℕ) → Enough (st .«max_iter») (b ∷ bs)
       → (r : Resumed) (w s₂ : List Float) → Chain n p x y st (b ∷ bs) a s₁ r w s₂
       → outcome r w s₂ ≡ ending (sizesOf n p st) (st .normalise) (termsOf st n .gamma) y (rest (sizesOf n p st) s) (fitOf n p x y st)
   pause-theorem b bs enough r w s₂ c =
@@ -106,14 +106,14 @@ module _ (n p : ℕ) (x y : List Float) (st : Settings) (s s₁ : List Float) (a
 
   -- CONDITION 3: after an accepted start, calls whose budgets add up to 5,100·M at least end as smartcore's fit: with its answer, weights and
   -- counts, +0 in every needed word of the scratch, and the excess as it was
-  pub pauses-end-as-the-rust : (b : ℕ) (bs : List ℕ) → Enough (st .rounds) (b ∷ bs)
+  pub pauses-end-as-the-rust : (b : ℕ) (bs : List ℕ) → Enough (st .«max_iter») (b ∷ bs)
       → (r : Resumed) (w s₂ : List Float) → Chain n p x y st (b ∷ bs) a s₁ r w s₂
       → outcome r w s₂ ≡ outcomeOf (sizesOf n p st) (rest (sizesOf n p st) s) (fit n p x y st)
   pauses-end-as-the-rust b bs enough r w s₂ c =
-      pause-theorem b bs enough r w s₂ c ∙ answers-as-the-rust n p x y st (rest (sizesOf n p st) s) (accepted (start-fits n p x y st s s₁ a h) .some-rows)
+      pause-theorem b bs enough r w s₂ c ∙ answers-as-the-rust n p x y st (rest (sizesOf n p st) s)
 
   -- the same in words
-  pub ends-as-unbroken : (b : ℕ) (bs : List ℕ) → Enough (st .rounds) (b ∷ bs)
+  pub ends-as-unbroken : (b : ℕ) (bs : List ℕ) → Enough (st .«max_iter») (b ∷ bs)
       → (r : Resumed) (w s₂ : List Float) → Chain n p x y st (b ∷ bs) a s₁ r w s₂
       → EndsAs n p st (rest (sizesOf n p st) s) (fit n p x y st) r w s₂
   unfolding outcomeOf gone

@@ -27,12 +27,12 @@ use Rattle.elastic_net.specs.declared.Answer.the-variants.{Refused}
 use Rattle.elastic_net.specs.declared.Resumed.{Resumed}
 use Rattle.elastic_net.specs.declared.Started.{Started}
 use Rattle.elastic_net.specs.declared.Started.the-variants.{Ready as ReadyS, Refused as RefusedS}
-use Rattle.elastic_net.specs.ElasticNet.{said, Outcome, outcome, byCheck, resumeOf, shown, Begun, byStartCheck, startOf}
+use Rattle.elastic_net.specs.ElasticNet.{said, Outcome, outcome, byCheck, resumeOf, shown, StartOutcome, byStartCheck, startOf}
 use Rattle.promises.specs.Chain.{Starts, Resumes}
 use Rattle.promises.specs.Refused.{firstOf, startCheck, resumeCheck, Unchanged}
-use Rattle.promises.proofs.Unique.{outcomes-same, begun-same}
+use Rattle.promises.proofs.Unique.{outcomes-same, starts-same}
 
-start-when : (j k : Checked) (s : List Float) (t good : Begun) → t ≡ byStartCheck j s (byStartCheck k s good) → (c : Checked) → firstOf j k ≡ c
+start-when : (j k : Checked) (s : List Float) (t good : StartOutcome) → t ≡ byStartCheck j s (byStartCheck k s good) → (c : Checked) → firstOf j k ≡ c
     → t ≡ byStartCheck c s good
 start-when Fine k s t good h c q = h ∙ ap (λ (i : Checked). byStartCheck i s good) q
 start-when (Bad r) k s t good h c q = h ∙ ap (λ (i : Checked). byStartCheck i s good) q
@@ -47,7 +47,7 @@ module _ (n p : ℕ) (x y : List Float) (st : Settings) (s : List Float) (o : St
   pub start-refused : (r : Refusal) → startCheck n p x y st s ≡ Bad r → (o ≡ RefusedS r) × (s₁ ≡ s)
   unfolding startOf
   start-refused r q =
-      begun-same o (RefusedS r) s₁ s
+      starts-same o (RefusedS r) s₁ s
       (start-when (limitsOf n p (length x) (length y) p st (length s)) (startValues x y n p (st .normalise)) s _ _ h (Bad r) q)
 
   -- ACCEPTED: a fresh record, and the scratch holds a fresh fit's vectors, its excess as it was
@@ -56,7 +56,7 @@ module _ (n p : ℕ) (x y : List Float) (st : Settings) (s : List Float) (o : St
       × (s₁ ≡ flatly (sizesOf n p st) (startStore (sizesOf n p st) (st .normalise) (termsOf st n) x y) (rest (sizesOf n p st) s))
   unfolding startOf
   start-accepted q =
-      begun-same o (ReadyS (pausedAt Opening 0 none (fresh p (termsOf st n .lambda)))) s₁
+      starts-same o (ReadyS (pausedAt Opening 0 none (fresh p (termsOf st n .lambda)))) s₁
       (flatly (sizesOf n p st) (startStore (sizesOf n p st) (st .normalise) (termsOf st n) x y) (rest (sizesOf n p st) s))
       (start-when (limitsOf n p (length x) (length y) p st (length s)) (startValues x y n p (st .normalise)) s _ _ h Fine q)
 
@@ -73,12 +73,12 @@ module _ (n p : ℕ) (x y : List Float) (st : Settings) (a : Paused) (s w : List
   unfolding resumeOf
   resume-refused q e =
       unchanged a s w r w′ s′ (Refused q)
-      (resume-when (limitsOf n p (length x) (length y) (length w) st (length s)) (cond (possibleOf (st .rounds) a) Fine (Bad Record)) a w s _ _ h (Bad q) e)
+      (resume-when (limitsOf n p (length x) (length y) (length w) st (length s)) (cond (possibleOf (st .«max_iter») a) Fine (Bad Record)) a w s _ _ h (Bad q) e)
 
   -- GOES ON: the state of the fit after the call
   pub resume-accepted : resumeCheck n p x y st a s w ≡ Fine
       → outcome r w′ s′
       ≡ shown (sizesOf n p st) (st .normalise) (termsOf st n .gamma) y (rest (sizesOf n p st) s) w
-      (call (parts (sizesOf n p st) (termsOf st n) (st .tol) x) (st .rounds) b (stateOf a (vars (sizesOf n p st) s)))
+      (call (parts (sizesOf n p st) (termsOf st n) (st .tol) x) (st .«max_iter») b (stateOf a (vars (sizesOf n p st) s)))
   unfolding resumeOf
-  resume-accepted e = resume-when (limitsOf n p (length x) (length y) (length w) st (length s)) (cond (possibleOf (st .rounds) a) Fine (Bad Record)) a w s _ _ h Fine e
+  resume-accepted e = resume-when (limitsOf n p (length x) (length y) (length w) st (length s)) (cond (possibleOf (st .«max_iter») a) Fine (Bad Record)) a w s _ _ h Fine e

@@ -12,7 +12,7 @@ use Rattle.elastic_net.specs.declared.Answer.the-variants.{Pending, Done, Refus
 use Rattle.elastic_net.specs.declared.Resumed.{Resumed}
 use Rattle.elastic_net.specs.declared.Started.{Started}
 use Rattle.elastic_net.specs.declared.Started.the-variants.{Ready as ReadyS, Refused as RefusedS}
-use Rattle.elastic_net.specs.ElasticNet.{Said, pending, converged, limit, refused, said, Outcome, outcome, SaidS, ready, refusedS, saidS, Begun, begun}
+use Rattle.elastic_net.specs.ElasticNet.{Said, pending, converged, limit, refused, said, Outcome, outcome, SaidS, ready, refusedS, saidS, StartOutcome, startOutcome}
 use Rattle.promises.specs.Chain.{Starts, Resumes}
 
 -- ---- 01's words name the enum's case
@@ -65,8 +65,8 @@ outcomes-same r r′ w w′ s s′ q = record {
 }
 
 -- and so for starts
-pub begun-same : (r r′ : Started) (s s′ : List Float) → begun r s ≡ begun r′ s′ → (r ≡ r′) × (s ≡ s′)
-begun-same r r′ s s′ q = (saidS-same r r′ (ap (λ (o : Begun). o .answer) q), ap (λ (o : Begun). o .scratch) q)
+pub starts-same : (r r′ : Started) (s s′ : List Float) → startOutcome r s ≡ startOutcome r′ s′ → (r ≡ r′) × (s ≡ s′)
+starts-same r r′ s s′ q = (saidS-same r r′ (ap (λ (o : StartOutcome). o .answer) q), ap (λ (o : StartOutcome). o .scratch) q)
 
 module _ (n p : ℕ) (x y : List Float) (st : Settings) where
   pub resume-unique : (a : Paused) (s w : List Float) (b : ℕ) (r r′ : Resumed) (w₁ w₂ s₁ s₂ : List Float)
@@ -75,4 +75,4 @@ module _ (n p : ℕ) (x y : List Float) (st : Settings) where
 
   pub start-unique : (s : List Float) (r r′ : Started) (s₁ s₂ : List Float)
       → Starts n p x y st s r s₁ → Starts n p x y st s r′ s₂ → (r ≡ r′) × (s₁ ≡ s₂)
-  start-unique s r r′ s₁ s₂ h k = begun-same r r′ s₁ s₂ (h ∙ sym k)
+  start-unique s r r′ s₁ s₂ h k = starts-same r r′ s₁ s₂ (h ∙ sym k)

@@ -9,11 +9,11 @@ use Rattle.pause.specs.Progress.{total}
 use Rattle.records.specs.declared.Paused.{Paused}
 use Rattle.elastic_net.specs.declared.Resumed.{Resumed}
 use Rattle.elastic_net.specs.declared.Started.{Started}
-use Rattle.elastic_net.specs.ElasticNet.{said, pending, outcome, resumeOf, begun, startOf}
+use Rattle.elastic_net.specs.ElasticNet.{said, pending, outcome, resumeOf, startOutcome, startOf}
 
 -- the contracts: what `start` and `resume` may answer and leave
 abbrev pub Starts : ℕ → ℕ → List Float → List Float → Settings → List Float → Started → List Float → Type 0
-Starts n p x y st s r s′ = begun r s′ ≡ startOf n p x y st s
+Starts n p x y st s r s′ = startOutcome r s′ ≡ startOf n p x y st s
 
 abbrev pub Resumes : ℕ → ℕ → List Float → List Float → Settings → Paused → List Float → List Float → ℕ → Resumed → List Float → List Float → Type 0
 Resumes n p x y st a s w b r w′ s′ = outcome r w′ s′ ≡ resumeOf n p x y st a s w b

@@ -13,7 +13,7 @@ use Rattle.settings.specs.declared.Settings.{Settings}
 use Rattle.layout.specs.Slots.{off}
 use Rattle.layout.specs.Slots.{Slot.W, Slot.U}
 use Rattle.layout.specs.Need.{sizesOf}
-use Rattle.bound.specs.Kept.{Inside}
+use Rattle.bound.specs.Guarded.{Inside}
 use Rattle.smartcore.specs.LassoOptimizer.{Counts, Fitted, converged, limit, failed, Point}
 use Rattle.records.specs.declared.Paused.{Paused}
 use Rattle.records.specs.Records.{possibleOf}

@@ -8,7 +8,7 @@ use borrow.Author.Tests.{ltb-true, leb-true, leb-false, eqb-true, lt-ltb, le-ltb
 use Rattle.pause.specs.Progress.{over, then, run}
 use Rattle.pause.specs.Parts.{Parts, Counts, limit, end}
 use Rattle.pause.specs.Paused.{State, opening, solving, searching, Pending, nextRound, step, settle, call}
-use Rattle.pause.specs.Bounds.{Within, Counted}
+use Rattle.pause.specs.Bounds.{StageIn, Counted}
 use Rattle.layout.specs.Slots.{Store}
 use Rattle.lasso_optimizer.specs.Data.{Data, held}
 use Rattle.records.specs.declared.Counts.{Counts as CountsE}
@@ -102,7 +102,7 @@ spent-over M a F o b v = let p = spent-at (a .stage) M (a .round) o in rw (p .0,
 
 module _ {X : Type 0} (F : Parts X Data) (solves : F .solves ≡ 4999) (trials : F .trials ≡ 100) where
   pub own-possible : (M n : ℕ) (x : State Data) → Counted F M n x → Pending M x → possibleOf M (pausedOf x) ≡ true
-  unfolding Within Pending possibleOf possibleAt pausedOf
+  unfolding StageIn Pending possibleOf possibleAt pausedOf
   own-possible M n (opening r c d) h p =
       let w = h .within in
       let s : c .solver ≤ 4999 * r = rw solves at (w .solver-in) in

@@ -38,5 +38,5 @@ endedOf c = record {
   stage = Ended;
   round = 0;
   counts = c;
-  scalars = record { t = plus0; s = plus0; dual = plus0; tol = plus0; bnrm = plus0; bkden = plus0; error = plus0; phi = plus0; gdx = plus0; missed = false };
+  scalars = record { t = plus0; s = plus0; dual = plus0; pcgtol = plus0; bnrm = plus0; bkden = plus0; error = plus0; phi = plus0; gdx = plus0; missed = false };
 }

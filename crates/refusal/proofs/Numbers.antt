@@ -1,11 +1,14 @@
--- Number and place determine the refusal. Assumes nothing.
+-- Number and place determine the refusal; no number is 0; every failure ends a fit, and has no place. Assumes nothing.
 use Prim.Native.Nat.{ℕ}
 use mathlib.Core.Path.{_≡_, refl}
-use mathlib.Core.Bool.{cond}
-use lib.Dec.{eqb}
+use mathlib.Core.Bool.{true, cond}
+use native.Mathlib.Omega.{arith}
+use lib.Dec.{T, eqb, ltb, ltb→lt}
 use Rattle.refusal.specs.declared.Refusal.{Refusal}
 use Rattle.refusal.specs.declared.Refusal.the-variants.{Size, Length, Setting, Scratch, NotFinite, Constant, Search, Tolerance, Record, NoRounds, Version, SheetLength, Flags, Claim, Pair, TooLarge}
-use Rattle.refusal.specs.Refusal.{numberOf, placeOf}
+use Rattle.refusal.specs.declared.Failure.{Failure}
+use Rattle.refusal.specs.declared.Failure.the-variants.{Search as SearchF, Tolerance as ToleranceF}
+use Rattle.refusal.specs.Refusal.{numberOf, placeOf, refusedBy, endsFit}
 
 pub refusalOf : ℕ → ℕ → Refusal
 refusalOf k i =
@@ -40,3 +43,35 @@ refusal-back Flags = refl
 refusal-back (Claim i) = refl
 refusal-back (Pair i) = refl
 refusal-back TooLarge = refl
+
+-- EVERY FAILURE ends the fit: one that `endsFit` left out would not be told from a refused input
+pub failures-end : (f : Failure) → endsFit (numberOf (refusedBy f)) ≡ true
+failures-end SearchF = refl
+failures-end ToleranceF = refl
+
+-- and has no place
+pub failures-placeless : (f : Failure) → placeOf (refusedBy f) ≡ 0
+failures-placeless SearchF = refl
+failures-placeless ToleranceF = refl
+
+numbered : (r : Refusal) → T (ltb 0 (numberOf r))
+numbered Size = tt
+numbered Length = tt
+numbered Setting = tt
+numbered Scratch = tt
+numbered (NotFinite i) = tt
+numbered (Constant j) = tt
+numbered Search = tt
+numbered Tolerance = tt
+numbered Record = tt
+numbered NoRounds = tt
+numbered Version = tt
+numbered SheetLength = tt
+numbered Flags = tt
+numbered (Claim i) = tt
+numbered (Pair i) = tt
+numbered TooLarge = tt
+
+-- a refusal's number is not 0
+pub not-0 : (r : Refusal) → 0 ≡ numberOf r → ⊥
+not-0 r e = let l = ltb→lt 0 (numberOf r) (numbered r) in omega arith

@@ -1,5 +1,7 @@
--- The number and the place of each refusal. Definitions only.
+-- The number and the place of each refusal, and which of them end a fit. Definitions only.
+use mathlib.Core.Bool.{Bool, _||_}
 use Prim.Native.Nat.{ℕ}
+use lib.Dec.{eqb}
 use Rattle.refusal.specs.declared.Refusal.{Refusal}
 use Rattle.refusal.specs.declared.Failure.{Failure}
 use Rattle.refusal.specs.declared.Failure.the-variants.{Search as SearchF, Tolerance as ToleranceF}
@@ -46,3 +48,7 @@ placeOf TooLarge = 0
 abbrev pub refusedBy : Failure → Refusal
 refusedBy SearchF = Search
 refusedBy ToleranceF = Tolerance
+
+-- the numbers that a failed fit is refused with: such a call has ended the fit, any other refusal leaves all as it was
+abbrev pub endsFit : ℕ → Bool
+endsFit n = eqb n (numberOf (refusedBy SearchF)) || eqb n (numberOf (refusedBy ToleranceF))

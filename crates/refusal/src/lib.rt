@@ -2,7 +2,7 @@
 use arrays::scan::Found;
 ghost use mathlib.Core.Path.{_≡_};
 ghost use Rattle.refusal.specs.Checks.{foundAt, Near};
-ghost use Rattle.refusal.specs.Refusal.{numberOf, placeOf, refusedBy};
+ghost use Rattle.refusal.specs.Refusal.{endsFit, numberOf, placeOf, refusedBy};
 ghost use Rattle.refusal.specs.Sizes.{inSize};
 
 pub enum Refusal {
@@ -98,6 +98,17 @@ pub fn refused_by(f: Failure) -> Refusal
         Failure::Search => Refusal::Search,
         Failure::Tolerance => Refusal::Tolerance,
     }
+}
+
+// Whether it ends a fit that was begun. Every other one leaves record, weights and scratch as they were.
+pub fn ends_fit(r: Refusal) -> bool
+    ensures { λ b. ⌜ b ≡ endsFit (numberOf r) ⌝ }
+{
+    let k = number(r);
+    if k == number(refused_by(Failure::Search)) {
+        return true;
+    }
+    k == number(refused_by(Failure::Tolerance))
 }
 
 // The ranges of rows and columns, 1 to 4,096 and 1 to 64, which refusal 1 asks of every call.

@@ -1,5 +1,5 @@
-// The refusals of start, resume, predict and the lone solver. Standard input has a record of 36 words for each call: which call (0 start, 1 resume,
-// 2 predict, 3 the solver); rows, columns; the settings; the lengths of matrix, targets, weights and scratch; the bits of a value, the first place
+// The refusals of start, resume, predict and the lone solver, by the calls over words. Standard input has a record of 36 words for each call: which
+// call (0 start, 1 resume, 2 predict, 3 the solver); rows, columns; the settings; the lengths of matrix, targets, weights and scratch; the bits of a value, the first place
 // that has it among the values of the call, how many have it and how far apart; the paused record; the budget. All other values are finite.
 // The targets of a prediction are the slice that it writes. The solver's order stands for the rows, right side and start for targets and weights,
 // limit for M. The words that a call takes and its answer make a line of the table that is printed.
@@ -13,9 +13,7 @@ use stored::tally::Verdict;
 use stored::tally::begun;
 use stored::tally::damaged;
 use stored::tally::tallied;
-ghost use mathlib.Core.Path.{_≡_};
 ghost use Prim.Native.Nat.{_≤_, _<_};
-ghost use lib.ListN.{length};
 
 fn main() {
     table::head();
@@ -56,17 +54,6 @@ fn row(w: &[u64]) -> Verdict {
         return Verdict::DamagedAt(15);
     }
     table::given(w);
-    called(w);
+    calls::called(w);
     Verdict::Shown
-}
-
-fn called(w: &[u64])
-    requires { ⌜ length (now w) ≡ 36 ⌝ }
-{
-    match w[0] {
-        0 => calls::start_call(w),
-        1 => calls::resume_call(w),
-        2 => calls::predict_call(w),
-        _ => calls::solve_call(w),
-    }
 }

@@ -1,7 +1,4 @@
 // The table that is printed.
-use refusal::Refusal;
-use refusal::number;
-use refusal::place;
 ghost use mathlib.Core.Path.{_≡_};
 ghost use Prim.Native.Nat.{_≤_};
 ghost use lib.ListN.{length};
@@ -81,11 +78,18 @@ pub fn wrote(what: &[u8], n: usize) {
     io::write_all(1, b"\n");
 }
 
-pub fn refused(r: Refusal, nothing: bool) {
+// The call returned the number that its answer has.
+pub fn refused(returned: u64, answer: &[u64], nothing: bool)
+    requires { ⌜ length (now answer) ≡ 7 ⌝ }
+{
+    if answer[0] != 3 || answer[1] != returned {
+        io::write_all(1, b"an answer of no kind\n");
+        return;
+    }
     io::write_all(1, b"refused ");
-    io::print_decimal(1, number(r));
+    io::print_decimal(1, returned);
     io::write_all(1, b" at ");
-    io::print_decimal(1, place(r) as u64);
+    io::print_decimal(1, answer[2]);
     written(nothing);
 }
 

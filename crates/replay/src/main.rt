@@ -1,6 +1,6 @@
 // Replays stored answers, kind by kind, and compares them bit for bit. Of each kind standard input has the number of its records, and the records.
 // A record is its kind, how many words stand before its numbers, how many of these are the first of two parts, and then what its trial is given
-// (crates `trials` and `fit_trials`, and, of a sheet, below): words, and the bits of numbers.
+// (crates `replay_parts` and `replay_fits`, and, of a sheet, below): words, and the bits of numbers.
 use sheet_fit::fit_sheet;
 use stored::bits::load;
 use stored::bytes::spelt;
@@ -86,8 +86,8 @@ fn verdict(w: &[u64], kind: u64) -> Verdict
         return Verdict::DamagedAt(3);
     }
     match kind {
-        ROOT => trials::functions::root_verdict(&w[3..]),
-        LOGARITHM => trials::functions::logarithm_verdict(&w[3..]),
+        ROOT => replay_parts::functions::root_verdict(&w[3..]),
+        LOGARITHM => replay_parts::functions::logarithm_verdict(&w[3..]),
         SHEET => sheet(&w[3..]),
         _ => loaded(kind, &w[3..h], &w[h..], a),
     }
@@ -107,10 +107,10 @@ fn loaded(kind: u64, w: &[u64], values: &[u64], a: usize) -> Verdict
 
 fn tried(kind: u64, w: &[u64], x: &[f64], y: &[f64]) -> Verdict {
     match kind {
-        FIT => fit_trials::fits::verdict(w, x, y),
-        SOLVER => trials::solver::verdict(w, x, y),
-        PREDICTION => trials::predictions::verdict(w, x, y),
-        _ => fit_trials::designs::verdict(w, x, y),
+        FIT => replay_fits::fits::verdict(w, x, y),
+        SOLVER => replay_parts::solver::verdict(w, x, y),
+        PREDICTION => replay_parts::predictions::verdict(w, x, y),
+        _ => replay_fits::designs::verdict(w, x, y),
     }
 }
 

@@ -81,7 +81,7 @@ allowed-says st t =
     let alpha = rangeOf (st .alpha) million in
     let ratio = rangeOf (st .«l1_ratio») one in
     let tol = rangeOf (st .tol) largest in
-    let most = leb (st .rounds) 1000 in
+    let most = leb (st .«max_iter») 1000 in
     let t₄ = and-l (alpha && ratio && tol && most) (panelsOf st) t in
     let t₃ = and-l (alpha && ratio && tol) most t₄ in
     let t₂ = and-l (alpha && ratio) tol t₃ in
@@ -89,7 +89,7 @@ allowed-says st t =
       alpha = range-says million (st .alpha) (and-l alpha ratio t₂);
       ratio = range-says one (st .«l1_ratio») (and-r alpha ratio t₂);
       tol = tolerance-says (st .tol) (and-r (alpha && ratio) tol t₃);
-      rounds = leb→le (st .rounds) 1000 (and-r (alpha && ratio && tol) most t₄);
+      maxIter = leb→le (st .«max_iter») 1000 (and-r (alpha && ratio && tol) most t₄);
       panels = panels-say st (and-r (alpha && ratio && tol && most) (panelsOf st) t);
     }
 
@@ -101,7 +101,7 @@ allowed-when st f h =
       is-true (rangeOf (st .alpha) million) (range-holds (h .alpha)),
       is-true (rangeOf (st .«l1_ratio») one) (range-holds (h .ratio)),
       is-true (rangeOf (st .tol) largest) (tolerance-holds f (h .tol)),
-      le-leb (st .rounds) 1000 (h .rounds),
+      le-leb (st .«max_iter») 1000 (h .maxIter),
       is-true (panelsOf st) (panels-hold st (h .panels)),
     ) tt
 

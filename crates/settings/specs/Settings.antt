@@ -31,7 +31,7 @@ largest = f64 0x7fef_ffff_ffff_ffff
 
 unfoldable pub allowedOf : Settings → Bool
 allowedOf st =
-    rangeOf (st .alpha) million && rangeOf (st .«l1_ratio») one && rangeOf (st .tol) largest && leb (st .rounds) 1000 && panelsOf st
+    rangeOf (st .alpha) million && rangeOf (st .«l1_ratio») one && rangeOf (st .tol) largest && leb (st .«max_iter») 1000 && panelsOf st
 
 -- ---- the same in 01's words, as what holds and not as a test
 
@@ -59,7 +59,7 @@ pub record Allowed (st : Settings) : Type 0 where
   pub alpha : InRange million (st .alpha)
   pub ratio : InRange one (st .«l1_ratio»)
   pub tol : FiniteRange (st .tol)
-  pub rounds : st .rounds ≤ 1000
+  pub maxIter : st .«max_iter» ≤ 1000
   pub panels : st .lazy ≡ true → Panels st
 
 -- the same settings with another R and C
@@ -68,7 +68,7 @@ withPanels R C st = record {
   alpha = st .alpha;
   «l1_ratio» = st .«l1_ratio»;
   tol = st .tol;
-  rounds = st .rounds;
+  «max_iter» = st .«max_iter»;
   «panel_rows» = R;
   «panel_cols» = C;
   normalise = st .normalise;

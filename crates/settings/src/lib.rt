@@ -11,7 +11,7 @@ pub struct Settings {
     pub l1_ratio: f64,
     pub tol: f64,
     // M, the most rounds that are opened
-    pub rounds: u64,
+    pub max_iter: u64,
     // R and C, looked at only where `lazy`
     pub panel_rows: usize,
     pub panel_cols: usize,
@@ -39,7 +39,7 @@ pub fn allowed(st: Settings) -> bool
     if !within(st.tol, 1.7976931348623157e308) {
         return false;
     }
-    if st.rounds > 1000 {
+    if st.max_iter > 1000 {
         return false;
     }
     panels(st)

@@ -36,8 +36,8 @@ ratioOf b = float-at b 12
 abbrev pub tolOf : List ℕ → Float
 tolOf b = float-at b 20
 
-abbrev pub roundsOf : List ℕ → ℕ
-roundsOf b = four-bytes b 28
+abbrev pub maxIterOf : List ℕ → ℕ
+maxIterOf b = four-bytes b 28
 
 abbrev pub flagsOf : List ℕ → ℕ
 flagsOf b = getD b 32 0
@@ -107,7 +107,7 @@ headerOf b R C = record {
     alpha = alphaOf b;
     «l1_ratio» = ratioOf b;
     tol = tolOf b;
-    rounds = roundsOf b;
+    «max_iter» = maxIterOf b;
     «panel_rows» = R;
     «panel_cols» = C;
     normalise = eqb (flagsOf b % 2) 1;

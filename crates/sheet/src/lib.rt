@@ -26,7 +26,7 @@ const L1_RATIO_AT: usize = 12;
 
 const TOL_AT: usize = 20;
 
-const ROUNDS_AT: usize = 28;
+const MAX_ITER_AT: usize = 28;
 
 const FLAGS_AT: usize = 32;
 
@@ -133,7 +133,7 @@ fn header_of(b: &[u8], rows: usize, cols: usize) -> Header
         alpha: float_at(b, ALPHA_AT),
         l1_ratio: float_at(b, L1_RATIO_AT),
         tol: float_at(b, TOL_AT),
-        rounds: big_endian(b, ROUNDS_AT, 4),
+        max_iter: big_endian(b, MAX_ITER_AT, 4),
         panel_rows: rows,
         panel_cols: cols,
         normalise: flags % 2 == 1,

@@ -29,7 +29,7 @@ optimizeEager n p x y st =
     let colStd = scalesOf (st .normalise) x n p in
     let x2 = designOf (st .normalise) tm n p x colMean colStd in
     let y2 = augmentY n p y in
-    optimize (gramOf (n + p) p x2) (n + p) p y2 (l1Of st n ⊗ tm .gamma) (st .rounds) (st .tol) true (rowsOf x2 (n + p) p) (columnsOf x2 (n + p) p)
+    optimize (gramOf (n + p) p x2) (n + p) p y2 (l1Of st n ⊗ tm .gamma) (st .«max_iter») (st .tol) true (rowsOf x2 (n + p) p) (columnsOf x2 (n + p) p)
 
 -- in fit_lazy_coefficients: each product makes the design anew
 unfoldable pub optimizeLazy : ℕ → ℕ → List Float → List Float → Settings → Fitted Point
@@ -38,7 +38,7 @@ optimizeLazy n p x y st =
     let colMean = centresOf (st .normalise) x n p in
     let colStd = scalesOf (st .normalise) x n p in
     let y2 = augmentY n p y in
-    optimize (lazyGramOf n p tm x colMean colStd) (n + p) p y2 (l1Of st n ⊗ tm .gamma) (st .rounds) (st .tol) true
+    optimize (lazyGramOf n p tm x colMean colStd) (n + p) p y2 (l1Of st n ⊗ tm .gamma) (st .«max_iter») (st .tol) true
     (matvec n p (tm .gamma) (tm .padding) x colMean colStd) (transposeMatvec n p (tm .gamma) (tm .padding) x colMean colStd)
 
 -- the weights before they are rescaled

@@ -61,7 +61,7 @@ alpha = f64 0x3f84_7ae1_47ae_147b
 abbrev pub beta : Float
 beta = half
 
--- -0.25
+-- -0.25; not the `gamma` of the settings
 abbrev pub gamma : Float
 gamma = neg (f64 0x3fd0_0000_0000_0000)
 

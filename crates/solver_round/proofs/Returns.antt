@@ -20,33 +20,33 @@ use Rattle.line_search.specs.Search.{sumlognegOf, phiOf}
 use Rattle.lasso_optimizer.specs.declared.Scalars.{Scalars}
 use Rattle.lasso_optimizer.specs.declared.Turned.{Turned}
 use Rattle.lasso_optimizer.specs.declared.Turned.the-variants.{More as MoreOf, Stop as StopOf}
-use Rattle.lasso_optimizer.specs.Data.{held, storeOf, turned, aimed}
+use Rattle.lasso_optimizer.specs.Data.{held, storeOf, withRound, aimed}
 use Rattle.lasso_optimizer.specs.Solving.{turnTo, turns, gdxOf, phiAt, missedBy, aimBy}
 use Rattle.lasso_optimizer.specs.Fit.{turnedRes, turnedData, DidTurn}
 
 -- the code's answer, from the solver's
 abbrev pub told : Scalars → Answer → Turned
-told a (Stop e d) = StopOf (turned a e d)
-told a (More e d) = MoreOf (turned a e d)
+told a (Stop e d) = StopOf (withRound a e d)
+told a (More e d) = MoreOf (withRound a e d)
 
 module _ (a : Scalars) (err bkden : Float) (v : Store) where
-  told-is : told a (turnBy (a .tol) err bkden) ≡ turnedRes (turnTo a err bkden v)
+  told-is : told a (turnBy (a .pcgtol) err bkden) ≡ turnedRes (turnTo a err bkden v)
   unfolding turnBy turnTo turnedRes
-  told-is = go (le err (a .tol)) refl where
-    go : (b : Bool) → le err (a .tol) ≡ b → told a (turnBy (a .tol) err bkden) ≡ turnedRes (turnTo a err bkden v)
+  told-is = go (le err (a .pcgtol)) refl where
+    go : (b : Bool) → le err (a .pcgtol) ≡ b → told a (turnBy (a .pcgtol) err bkden) ≡ turnedRes (turnTo a err bkden v)
     go true q = rw q
     go false q = rw q
 
   -- either way the memory is the same
   store-is : storeOf (turnedData (turnTo a err bkden v)) ≡ v
   unfolding turnTo turnedData
-  store-is = go (le err (a .tol)) refl where
-    go : (b : Bool) → le err (a .tol) ≡ b → storeOf (turnedData (turnTo a err bkden v)) ≡ v
+  store-is = go (le err (a .pcgtol)) refl where
+    go : (b : Bool) → le err (a .pcgtol) ≡ b → storeOf (turnedData (turnTo a err bkden v)) ≡ v
     go true q = rw q
     go false q = rw q
 
 pub did-turn : {sh : Sizes} {e : List Float} (k : ℕ) (a : Scalars) {v : Store} {t t′ : Answer} {m : List Float}
-    → DidRound sh e (eqb k 1) (a .bkden) (a .bnrm) (a .tol) v t m → t ≡ t′ → DidTurn sh e (turns sh k (held a v)) (told a t′) m
+    → DidRound sh e (eqb k 1) (a .bkden) (a .bnrm) (a .pcgtol) v t m → t ≡ t′ → DidTurn sh e (turns sh k (held a v)) (told a t′) m
 unfolding turns
 did-turn {sh} k a {v} d q = record {
   is = ap (told a) (sym q ∙ d .is) ∙ told-is a _ _ (turnStore sh (eqb k 1) (a .bkden) v);
@@ -58,7 +58,7 @@ module _ (a : Scalars) where
   unfolding missedBy
   missed-before h = rw h
 
-  pub not-before : a .missed ≡ false → lt (a .tol) (a .error) ≡ missedBy a
+  pub not-before : a .missed ≡ false → lt (a .pcgtol) (a .error) ≡ missedBy a
   unfolding missedBy
   not-before h = rw h
 

@@ -19,7 +19,7 @@ pub fn turn(s: &mut [f64], sh: Sizes, l: Places, k: u64, a: Scalars) -> Turned
     requires { ⌜ Room sh l (now s) ⌝ }
     ensures { λ o. ⌜ DidTurn sh (rest sh (now (s .entry))) (turns sh k (held a (vars sh (now (s .entry))))) o (now (s .exit)) ⌝ }
 {
-    match inner_solver::turn(s, sh, l, k == 1, a.bkden, a.bnrm, a.tol) {
+    match inner_solver::turn(s, sh, l, k == 1, a.bkden, a.bnrm, a.pcgtol) {
         bg_solver::shared::Turned::Stop(e, d) => Turned::Stop(Scalars {
             bkden: d,
             error: e,
@@ -40,7 +40,7 @@ fn missed(a: Scalars) -> bool
     if a.missed {
         return true;
     }
-    a.error > a.tol
+    a.error > a.pcgtol
 }
 
 fn phi_at(s: &[f64], sh: Sizes, tm: Terms, l: Places, t: f64) -> f64

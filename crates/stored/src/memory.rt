@@ -3,6 +3,9 @@ use super::bits::all;
 use numbers::bits::bits_of;
 use numbers::bits::of_bits;
 
+// A word to fill lent words with, which no record and no answer has.
+pub const MARK: u64 = 0x1234_5678_9abc_def0;
+
 // The value's bits, the first place that has it, how many have it, and how far apart these are.
 pub struct Spoilt {
     pub value: u64,

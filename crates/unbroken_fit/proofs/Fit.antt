@@ -2,10 +2,7 @@
 use mathlib.Core.Path.{_≡_, refl, sym, ap, _∙_, fun-ext, subst}
 use mathlib.Core.Bool.{Bool, true, false, cond}
 use mathlib.Core.List.{List}
-use Prim.Native.Nat.{ℕ, zero, suc, _+_, _≤_}
-use native.Mathlib.Omega.{arith}
-use borrow.Author.Tests.{ne-eqb}
-use lib.Dec.{eqb}
+use Prim.Native.Nat.{ℕ, zero, suc, _+_}
 use lib.Ieee.{Float}
 use Rattle.refusal.specs.declared.Failure.{Failure}
 use Rattle.numbers.specs.Ops.{_⊗_}
@@ -22,11 +19,11 @@ use Rattle.lazy_normalization.specs.Lazy.{lazyRows, lazyColumns, recipStore}
 use Rattle.lazy_gram.specs.Gram.{lazyGramOf, lazyGramStore}
 use Rattle.design.specs.Statistics.{centresOf, scalesOf, statisticsStore, centredOf, targetsStore}
 use Rattle.design.specs.Eager.{designStore, gramStore}
-use Rattle.design.specs.Mode.{isLazy, matvecOf, transposedOf}
+use Rattle.design.specs.Mode.{matvecOf, transposedOf}
 use Rattle.newton.specs.Newton.{startT}
 use Rattle.pause.specs.Progress.{Progress, then}
 use Rattle.pause.specs.Parts.{Counts as CountsP, none, End}
-use Rattle.pause.specs.Unbroken.{Work, work, oneRound, manyRounds, close, unbroken}
+use Rattle.pause.specs.Unbroken.{Reached, reached, oneRound, manyRounds, close, unbroken}
 use Rattle.lasso_optimizer.specs.Data.{Data, held, storeOf}
 use Rattle.lasso_optimizer.specs.Fit.{parts, fresh, optimized}
 use Rattle.beginning.specs.Start.{blankStore, preparedStore, startStore}
@@ -41,7 +38,7 @@ use Rattle.unbroken_fit.proofs.Round.{varsOf, lastIn, Ends, RoundBy, ma
 module _ (sh : Sizes) (tm : Terms) (tol : Float) (m : List Float) where
   -- the product with its transpose
   abbrev transposedAt : Bool → Fixed → List Float → List Float
-  transposedAt b x xs = cond b (lazyColumns (sh .n) (sh .p) tm m (x .centre) (x .scale) (x .recip) xs) (columnsOf (x .design) (sh .rows) (sh .p) xs)
+  transposedAt b x xs = cond b (lazyColumns (sh .n) (sh .p) tm m (x .centre) (x .scale) (x .recip) xs) (columnsOf (x .design) (sh .stored) (sh .p) xs)
 
   abbrev roundsAt : Bool → Fixed → ℕ → ℕ → Vars → Fitted Point
   roundsAt b x = rounds (sh .k) (sh .p) (x .y) (tm .lambda) (matvecAt sh tm tol m b x) (x .gram) tol (transposedAt b x)
@@ -49,30 +46,30 @@ module _ (sh : Sizes) (tm : Terms) (tol : Float) (m : List Float) where
   -- one round and what follows it
   then-is : (x : Fixed) (f r : ℕ)
       → ((c : CountsP) (d : Data)
-      → Ends (fixedIn (storeOf d)) (close (manyRounds (parts sh tm tol m) f r (work c d))) (roundsAt (isLazy sh) (fixedIn (storeOf d)) f r (varsOf c d)))
-      → (o : Progress (End Failure Data) (Work Data)) (n : Next) → RoundBy x o n
+      → Ends (fixedIn (storeOf d)) (close (manyRounds (parts sh tm tol m) f r (reached c d))) (roundsAt (sh .lazy) (fixedIn (storeOf d)) f r (varsOf c d)))
+      → (o : Progress (End Failure Data) (Reached Data)) (n : Next) → RoundBy x o n
       → Ends x (close (then o (manyRounds (parts sh tm tol m) f r))) (elim n [
-        | on v ↦ roundsAt (isLazy sh) x f r v
+        | on v ↦ roundsAt (sh .lazy) x f r v
         | out e ↦ e
       ])
   unfolding then close
   then-is x f r rec o (on v) h =
-      let u = close (manyRounds (parts sh tm tol m) f r (work (h .counts) (h .left))) in
-      subst (λ (o′ : Progress (End Failure Data) (Work Data)). Ends x (close (then o′ (manyRounds (parts sh tm tol m) f r))) (roundsAt (isLazy sh) x f r v)) (sym (h .is))
-      (subst (λ (w : Vars). Ends x u (roundsAt (isLazy sh) x f r w)) (h .vars)
-      (subst (λ (y : Fixed). Ends y u (roundsAt (isLazy sh) y f r (varsOf (h .counts) (h .left)))) (h .same) (rec (h .counts) (h .left))))
+      let u = close (manyRounds (parts sh tm tol m) f r (reached (h .counts) (h .left))) in
+      subst (λ (o′ : Progress (End Failure Data) (Reached Data)). Ends x (close (then o′ (manyRounds (parts sh tm tol m) f r))) (roundsAt (sh .lazy) x f r v)) (sym (h .is))
+      (subst (λ (w : Vars). Ends x u (roundsAt (sh .lazy) x f r w)) (h .vars)
+      (subst (λ (y : Fixed). Ends y u (roundsAt (sh .lazy) y f r (varsOf (h .counts) (h .left)))) (h .same) (rec (h .counts) (h .left))))
   then-is x f r rec o (out e) h =
-      subst (λ (o′ : Progress (End Failure Data) (Work Data)). Ends x (close (then o′ (manyRounds (parts sh tm tol m) f r))) e) (sym (h .is)) (h .ends)
+      subst (λ (o′ : Progress (End Failure Data) (Reached Data)). Ends x (close (then o′ (manyRounds (parts sh tm tol m) f r))) e) (sym (h .is)) (h .ends)
 
   rounds-are : (f r : ℕ) (c : CountsP) (d : Data)
-      → Ends (fixedIn (storeOf d)) (close (manyRounds (parts sh tm tol m) f r (work c d))) (roundsAt (isLazy sh) (fixedIn (storeOf d)) f r (varsOf c d))
+      → Ends (fixedIn (storeOf d)) (close (manyRounds (parts sh tm tol m) f r (reached c d))) (roundsAt (sh .lazy) (fixedIn (storeOf d)) f r (varsOf c d))
   unfolding manyRounds rounds close told pointOf matvecOf transposedOf
   rounds-are zero r c (held a v) = record { says = refl; same = refl }
   rounds-are (suc f) r c (held a v) =
-      then-is (fixedIn v) f (r + 1) (rounds-are f (r + 1)) (oneRound (parts sh tm tol m) r (work c (held a v))) (roundIn sh tm tol m r c a v) (round-is sh tm tol m r c a v)
+      then-is (fixedIn v) f (r + 1) (rounds-are f (r + 1)) (oneRound (parts sh tm tol m) r (reached c (held a v))) (roundIn sh tm tol m r c a v) (round-is sh tm tol m r c a v)
 
   pub optimized-is : (M : ℕ) (v : Store)
-      → Ends (fixedIn v) (optimized sh tm tol m M v) (roundsAt (isLazy sh) (fixedIn v) M 0 (varsOf none (held (fresh (sh .p) (tm .lambda)) v)))
+      → Ends (fixedIn v) (optimized sh tm tol m M v) (roundsAt (sh .lazy) (fixedIn v) M 0 (varsOf none (held (fresh (sh .p) (tm .lambda)) v)))
   unfolding optimized unbroken
   optimized-is M v = rounds-are M 0 none (held (fresh (sh .p) (tm .lambda)) v)
 
@@ -85,13 +82,13 @@ pick Rel false a₁ a₂ b₁ b₂ p q = q
 
 module _ (n p : ℕ) (x y : List Float) (st : Settings) where
   abbrev pub lazySizes : Sizes
-  lazySizes = record { n = n; p = p; k = n + p; rows = 0; pr = st .«panel_rows»; pc = st .«panel_cols» }
+  lazySizes = record { n = n; p = p; k = n + p; lazy = true; stored = 0; pr = st .«panel_rows»; pc = st .«panel_cols» }
 
   abbrev pub eagerSizes : Sizes
-  eagerSizes = record { n = n; p = p; k = n + p; rows = n + p; pr = 0; pc = 0 }
+  eagerSizes = record { n = n; p = p; k = n + p; lazy = false; stored = n + p; pr = 0; pc = 0 }
 
   abbrev pub endWith : Sizes → End Failure Data
-  endWith sh = optimized sh (termsOf st n) (st .tol) x (st .rounds) (startStore sh (st .normalise) (termsOf st n) x y)
+  endWith sh = optimized sh (termsOf st n) (st .tol) x (st .«max_iter») (startStore sh (st .normalise) (termsOf st n) x y)
 
   -- the fixed vectors that the end of a fit is told by
   pub record Fits (u : End Failure Data) (e : Fitted Point) : Type 0 where
@@ -103,7 +100,7 @@ module _ (n p : ℕ) (x y : List Float) (st : Settings) where
   abbrev lazyBy : (List Float → List Float) → (List Float → List Float) → Fitted Point
   lazyBy f g =
       let tm = termsOf st n in
-      optimize (lazyGramOf n p tm x (centresOf (st .normalise) x n p) (scalesOf (st .normalise) x n p)) (n + p) p (augmentY n p y) (l1Of st n ⊗ tm .gamma) (st .rounds)
+      optimize (lazyGramOf n p tm x (centresOf (st .normalise) x n p) (scalesOf (st .normalise) x n p)) (n + p) p (augmentY n p y) (l1Of st n ⊗ tm .gamma) (st .«max_iter»)
       (st .tol) true f g
 
   abbrev lazyIn : Fitted Point
@@ -116,7 +113,7 @@ module _ (n p : ℕ) (x y : List Float) (st : Settings) where
   stored-is : Fits (endWith lazySizes) lazyIn
   unfolding startStore preparedStore lazyGramStore recipStore targetsStore statisticsStore blankStore fresh startT termsOf centredOf countsOf augmentY optimize _⟨_≔_⟩ upd
   stored-is =
-      let h = optimized-is lazySizes (termsOf st n) (st .tol) x (st .rounds) (startStore lazySizes (st .normalise) (termsOf st n) x y) in
+      let h = optimized-is lazySizes (termsOf st n) (st .tol) x (st .«max_iter») (startStore lazySizes (st .normalise) (termsOf st n) x y) in
       record { says = h .says; centres = ap (λ (f : Fixed). f .centre) (h .same); scales = ap (λ (f : Fixed). f .scale) (h .same) }
 
   by-products : lazyIn ≡ optimizeLazy n p x y st
@@ -131,38 +128,33 @@ module _ (n p : ℕ) (x y : List Float) (st : Settings) where
   lazy-is : Fits (endWith lazySizes) (optimizeLazy n p x y st)
   lazy-is = subst (Fits (endWith lazySizes)) by-products stored-is
 
-  -- b says whether the design is lazy
-  abbrev startAt : Bool → Store
-  startAt b =
+  abbrev eagerStart : Store
+  eagerStart =
       let sh = eagerSizes in
       let tm = termsOf st n in
-      let v = targetsStore sh y (statisticsStore sh (st .normalise) x (blankStore sh)) in
-      cond b (lazyGramStore sh tm x (recipStore sh v)) (gramStore sh (designStore sh (st .normalise) tm x v))
+      gramStore sh (designStore sh (st .normalise) tm x (targetsStore sh y (statisticsStore sh (st .normalise) x (blankStore sh))))
 
-  abbrev eagerAt : Bool → Fitted Point
-  eagerAt b =
+  abbrev eagerIn : Fitted Point
+  eagerIn =
       let tm = termsOf st n in
-      roundsAt eagerSizes tm (st .tol) x b (fixedIn (startAt b)) (st .rounds) 0 (varsOf none (held (fresh p (tm .lambda)) (startAt b)))
+      roundsAt eagerSizes tm (st .tol) x false (fixedIn eagerStart) (st .«max_iter») 0 (varsOf none (held (fresh p (tm .lambda)) eagerStart))
 
-  eager-rounds : Ends (fixedIn (startAt false)) (endWith eagerSizes) (eagerAt false) → Fits (endWith eagerSizes) (optimizeEager n p x y st)
+  eager-rounds : Ends (fixedIn eagerStart) (endWith eagerSizes) eagerIn → Fits (endWith eagerSizes) (optimizeEager n p x y st)
   unfolding gramStore designStore targetsStore statisticsStore blankStore fresh startT termsOf centredOf countsOf optimizeEager augmentY optimize _⟨_≔_⟩ upd
   eager-rounds h = record { says = h .says; centres = ap (λ (f : Fixed). f .centre) (h .same); scales = ap (λ (f : Fixed). f .scale) (h .same) }
 
-  eager-is : 1 ≤ n → Fits (endWith eagerSizes) (optimizeEager n p x y st)
+  eager-is : Fits (endWith eagerSizes) (optimizeEager n p x y st)
   unfolding startStore preparedStore
-  eager-is some =
-      let e : eqb (n + p) 0 ≡ false = ne-eqb (n + p) 0 (λ q. omega arith) in
+  eager-is =
       let tm = termsOf st n in
-      eager-rounds
-      (subst (λ (b : Bool). Ends (fixedIn (startAt b)) (endWith eagerSizes) (eagerAt b)) e
-      (optimized-is eagerSizes tm (st .tol) x (st .rounds) (startStore eagerSizes (st .normalise) tm x y)))
+      eager-rounds (optimized-is eagerSizes tm (st .tol) x (st .«max_iter») (startStore eagerSizes (st .normalise) tm x y))
 
-  pub fit-is : 1 ≤ n → Fits (fitOf n p x y st) (optimizeFit n p x y st)
+  pub fit-is : Fits (fitOf n p x y st) (optimizeFit n p x y st)
   unfolding fitOf optimizeFit sizesOf
-  fit-is some =
+  fit-is =
       pick (λ (sh : Sizes) (e : Fitted Point). Fits (endWith sh) e) (st .lazy) lazySizes eagerSizes (optimizeLazy n p x y st) (optimizeEager n p x y st)
-      lazy-is (eager-is some)
+      lazy-is eager-is
 
--- THE UNBROKEN FIT IS SMARTCORE'S: of an input that has a row it ends the same way, with the same counts and the same weights
-pub as-the-rust : (n p : ℕ) (x y : List Float) (st : Settings) → 1 ≤ n → told (fitOf n p x y st) ≡ optimizeFit n p x y st
-as-the-rust n p x y st some = fit-is n p x y st some .says
+-- THE UNBROKEN FIT IS SMARTCORE'S: it ends the same way, with the same counts and the same weights
+pub as-the-rust : (n p : ℕ) (x y : List Float) (st : Settings) → told (fitOf n p x y st) ≡ optimizeFit n p x y st
+as-the-rust n p x y st = fit-is n p x y st .says

@@ -24,14 +24,14 @@ use Rattle.layout.specs.Slots.{Slot.W, Slot.U, Slot.F, Slot.D1, Slot.D2, Slot.P
 use Rattle.bg_solver.specs.Solver.{begun}
 use Rattle.inner_solver.specs.Inner.{systemOf, withWork, beginStore, bnrmOf}
 use Rattle.lazy_normalization.specs.Lazy.{lazyRows}
-use Rattle.design.specs.Mode.{isLazy, matvecOf, transposedOf}
+use Rattle.design.specs.Mode.{matvecOf, transposedOf}
 use Rattle.newton.specs.Newton.{nextT, g1Of, gradOf, prsOf, tolerance}
 use Rattle.line_search.specs.Search.{sumlognegOf, phiOf}
 use Rattle.pause.specs.Progress.{Progress, over, going, then}
 use Rattle.pause.specs.Parts.{Opened, ready, done, fails, Counts as CountsP, round+, End, end, converged as convergedP, failed as failedP}
-use Rattle.pause.specs.Unbroken.{Work, work, openRound, solve, lineSearch, oneRound}
+use Rattle.pause.specs.Unbroken.{Reached, reached, openRound, solve, lineSearch, oneRound}
 use Rattle.lasso_optimizer.specs.declared.Scalars.{Scalars}
-use Rattle.lasso_optimizer.specs.Data.{Data, held, storeOf, opened, turned, stepped}
+use Rattle.lasso_optimizer.specs.Data.{Data, held, storeOf, opened, withRound, stepped}
 use Rattle.lasso_optimizer.specs.Opening.{residualStore, shrunkStore, gapStore, primalOf, gapOf, dualOf, barrierStore, gradientStore, preconditionerStore, newtonStore}
 use Rattle.lasso_optimizer.specs.Opening.{pcgtolOf, readyBy, openBy, opens}
 use Rattle.lasso_optimizer.specs.Solving.{missedBy, gdxOf, phiAt, aimBy, aim}
@@ -41,7 +41,7 @@ use Rattle.smartcore.specs.LassoOptimizer.{Fitted, converged, failed, Point, pc
 use Rattle.smartcore.specs.LassoOptimizer.{Vars, Searched, accepted, exceeded, Next, on, out, search, round}
 use Rattle.smartcore.proofs.First.{first-round}
 use Rattle.unbroken_fit.specs.Unbroken.{countsOf, pointOf, told}
-use Rattle.unbroken_fit.proofs.Solver.{Fixed, fixedIn, Kept, keptIn, self-is, selfIn, count, choose, SolvedBy, solve-loop}
+use Rattle.unbroken_fit.proofs.Solver.{Fixed, fixedIn, Spared, sparedIn, self-is, selfIn, count, choose, SolvedBy, solve-loop}
 use Rattle.unbroken_fit.proofs.Search.{Left, SearchedBy, searchIn, search-loop}
 
 -- ---- a write of what is there already
@@ -50,7 +50,7 @@ put-back : (v : Store) (w : Slot) → (v ⟨ w ≔ (λ u. u w) ⟩) ≡ v
 put-back v w = fun-ext (λ s. go s (ℕ-discrete (num s) (num w))) where
   go : (s : Slot) → Dec (num s ≡ num w) → (v ⟨ w ≔ (λ u. u w) ⟩) s ≡ v s
   go s (yes q) =
-      let e : s ≡ w = table (record { n = 0; p = 0; k = 0; rows = 0; pr = 0; pc = 0 }) .inj s w q in
+      let e : s ≡ w = table (record { n = 0; p = 0; k = 0; lazy = true; stored = 0; pr = 0; pc = 0 }) .inj s w q in
       rw (e, seen-same v w (λ u. u w))
   go s (no q) = seen-other v w (λ u. u w) s q
 
@@ -92,10 +92,10 @@ varsOf c (held a v) = record {
 abbrev pub lastIn : End Failure Data → Store
 lastIn (end h c d) = storeOf d
 
-pub record GoesOn (fixed : Fixed) (o : Progress (End Failure Data) (Work Data)) (v : Vars) : Type 0 where
+pub record GoesOn (fixed : Fixed) (o : Progress (End Failure Data) (Reached Data)) (v : Vars) : Type 0 where
   pub counts : CountsP
   pub left : Data
-  pub is : o ≡ going (work counts left)
+  pub is : o ≡ going (reached counts left)
   pub vars : varsOf counts left ≡ v
   pub same : fixedIn (storeOf left) ≡ fixed
 
@@ -104,19 +104,19 @@ pub record Ends (fixed : Fixed) (last : End Failure Data) (e : Fitted Point) : T
   pub says : told last ≡ e
   pub same : fixedIn (lastIn last) ≡ fixed
 
-pub record IsOver (fixed : Fixed) (o : Progress (End Failure Data) (Work Data)) (e : Fitted Point) : Type 0 where
+pub record IsOver (fixed : Fixed) (o : Progress (End Failure Data) (Reached Data)) (e : Fitted Point) : Type 0 where
   pub last : End Failure Data
   pub is : o ≡ over last
   pub ends : Ends fixed last e
 
-abbrev pub RoundBy : Fixed → Progress (End Failure Data) (Work Data) → Next → Type 0
+abbrev pub RoundBy : Fixed → Progress (End Failure Data) (Reached Data) → Next → Type 0
 RoundBy fixed o (on v) = GoesOn fixed o v
 RoundBy fixed o (out e) = IsOver fixed o e
 
 module _ (sh : Sizes) (tm : Terms) (tol : Float) (m : List Float) where
   -- the product with the design, of what is fixed; lazy where b
   abbrev pub matvecAt : Bool → Fixed → List Float → List Float
-  matvecAt b x xs = cond b (lazyRows (sh .n) (sh .p) tm m (x .centre) (x .scale) (x .recip) xs) (rowsOf (x .design) (sh .rows) (sh .p) xs)
+  matvecAt b x xs = cond b (lazyRows (sh .n) (sh .p) tm m (x .centre) (x .scale) (x .recip) xs) (rowsOf (x .design) (sh .stored) (sh .p) xs)
 
   -- ---- the search, after the solver
 
@@ -141,7 +141,7 @@ module _ (sh : Sizes) (tm : Terms) (tol : Float) (m : List Float) where
       counts = record { openings = r; solver = k; trials = trials };
     }
 
-    searched : (x : List Float) (fixed : Fixed) (pitr : ℕ) → pitrOf (a .missed) ≡ pitr → (o : Progress (End Failure Data) (Work Data)) (s : Searched)
+    searched : (x : List Float) (fixed : Fixed) (pitr : ℕ) → pitrOf (a .missed) ≡ pitr → (o : Progress (End Failure Data) (Reached Data)) (s : Searched)
         → SearchedBy sh tm tol m r k a x fixed o s → RoundBy fixed o (afterSearch x pitr s)
     unfolding countsOf told
     searched x fixed pitr e o (accepted s neww newu newf trials) h = record {
@@ -157,49 +157,49 @@ module _ (sh : Sizes) (tm : Terms) (tol : Float) (m : List Float) where
   -- ---- what follows the solver's last round
 
   module _ (r k₀ j : ℕ) (a : Scalars) where
-    abbrev afterAim : Kept → List Float → Float → ℕ → Next
+    abbrev afterAim : Spared → List Float → Float → ℕ → Next
     afterAim kept x error made =
-        afterSearch r (k₀ + made) a x (cond (lt (a .tol) error) pcgmaxi (pitrOf (a .missed)))
-        (search (sh .k) (sh .p) (kept .fixed .y) (tm .lambda) (matvecAt (isLazy sh) (kept .fixed)) (kept .w) (kept .u) (part x 0 (sh .p)) (part x (sh .p) (sh .p)) (a .t)
+        afterSearch r (k₀ + made) a x (cond (lt (a .pcgtol) error) pcgmaxi (pitrOf (a .missed)))
+        (search (sh .k) (sh .p) (kept .fixed .y) (tm .lambda) (matvecAt (sh .lazy) (kept .fixed)) (kept .w) (kept .u) (part x 0 (sh .p)) (part x (sh .p) (sh .p)) (a .t)
         (dotOf (sh .k) (kept .z) (kept .z) ⊕ tm .lambda ⊗ sumOf (sh .p) (kept .u) ⊖ sumlogneg (sh .p) (kept .f) ⊘ a .t) (dotOf (2 * sh .p) (kept .grad) x)
         maxLsIter j one)
 
-    abbrev afterSolve : Kept → Solution → Next
+    abbrev afterSolve : Spared → Solution → Next
     afterSolve kept s = elim s [
       | err k ↦ out (failed k (record { openings = r; solver = k₀; trials = j }))
       | ok error x made ↦ afterAim kept x error made
     ]
 
     aim-is : (error bkden : Float) (made : ℕ) (v : Store)
-        → RoundBy (fixedIn v) (lineSearch (parts sh tm tol m) 100 (work (count r (k₀ + made) j) (aim sh tm (held (turned a error bkden) v))))
-        (afterAim (keptIn v) (v DXU) error made)
+        → RoundBy (fixedIn v) (lineSearch (parts sh tm tol m) 100 (reached (count r (k₀ + made) j) (aim sh tm (held (withRound a error bkden) v))))
+        (afterAim (sparedIn v) (v DXU) error made)
     unfolding aim aimBy missedBy gdxOf phiAt phiOf sumlognegOf sumlogneg matvecOf
     aim-is error bkden made v =
-        let a′ = aimBy sh tm (turned a error bkden) v in
-        searched r (k₀ + made) a′ (v DXU) (fixedIn v) _ (pitr-next (a .missed) (lt (a .tol) error))
-        (lineSearch (parts sh tm tol m) 100 (work (count r (k₀ + made) j) (held (stepped a′ one) v))) (searchIn sh tm m a′ v 100 j one)
+        let a′ = aimBy sh tm (withRound a error bkden) v in
+        searched r (k₀ + made) a′ (v DXU) (fixedIn v) _ (pitr-next (a .missed) (lt (a .pcgtol) error))
+        (lineSearch (parts sh tm tol m) 100 (reached (count r (k₀ + made) j) (held (stepped a′ one) v))) (searchIn sh tm m a′ v 100 j one)
         (search-loop sh tm tol m r (k₀ + made) a′ 100 j one v)
 
-    solve-is : (kept : Kept) (o : Progress (End Failure Data) (Work Data)) (s : Solution) → SolvedBy sh tm tol m r k₀ j a kept o s
+    solve-is : (kept : Spared) (o : Progress (End Failure Data) (Reached Data)) (s : Solution) → SolvedBy sh tm tol m r k₀ j a kept o s
         → RoundBy (kept .fixed) (then o (lineSearch (parts sh tm tol m) 100)) (afterSolve kept s)
     unfolding then
     solve-is kept o (ok error x made) h =
-        let w = work (count r (k₀ + made) j) (aim sh tm (held (turned a error (h .bkden)) (h .store))) in
+        let w = reached (count r (k₀ + made) j) (aim sh tm (held (withRound a error (h .bkden)) (h .store))) in
         let now = lineSearch (parts sh tm tol m) 100 w in
-        subst (λ (o′ : Progress (End Failure Data) (Work Data)). RoundBy (kept .fixed) (then o′ (lineSearch (parts sh tm tol m) 100)) (afterAim kept x error made)) (sym (h .is))
-        (subst (λ (l : Kept). RoundBy (l .fixed) now (afterAim l x error made)) (h .same)
-        (subst (λ (x′ : List Float). RoundBy (fixedIn (h .store)) now (afterAim (keptIn (h .store)) x′ error made)) (h .at)
+        subst (λ (o′ : Progress (End Failure Data) (Reached Data)). RoundBy (kept .fixed) (then o′ (lineSearch (parts sh tm tol m) 100)) (afterAim kept x error made)) (sym (h .is))
+        (subst (λ (l : Spared). RoundBy (l .fixed) now (afterAim l x error made)) (h .same)
+        (subst (λ (x′ : List Float). RoundBy (fixedIn (h .store)) now (afterAim (sparedIn (h .store)) x′ error made)) (h .at)
         (aim-is error (h .bkden) made (h .store))))
     solve-is kept o (err k) h = absurd h
 
   -- ---- the opening
 
   module _ (c : CountsP) where
-    abbrev afterOpen : Opened Failure Data → Progress (End Failure Data) (Work Data)
+    abbrev afterOpen : Opened Failure Data → Progress (End Failure Data) (Reached Data)
     afterOpen o =
         then
         (elim o [
-          | ready t ↦ going (work (round+ c) t)
+          | ready t ↦ going (reached (round+ c) t)
           | done t ↦ over (end convergedP (round+ c) t)
           | fails x t ↦ over (end (failedP x) (round+ c) t)
         ])
@@ -208,7 +208,7 @@ module _ (sh : Sizes) (tm : Terms) (tol : Float) (m : List Float) where
     -- what follows the Newton terms in u
     abbrev afterNewton : Scalars → Float → Float → Float → Store → Solver → Next
     afterNewton a t dual pcgtol u self =
-        afterSolve (c .rounds + 1) (c .solver) (c .trials) (opened a t dual pcgtol (bnrmOf sh u)) (keptIn u)
+        afterSolve (c .rounds + 1) (c .solver) (c .trials) (opened a t dual pcgtol (bnrmOf sh u)) (sparedIn u)
         (solveMut self (2 * sh .p) (u GRAD) (u DXU) pcgtol pcgmaxi)
 
     -- the solver's loop from its first lines, over what the last solve left in pp, bkden and the error
@@ -218,26 +218,26 @@ module _ (sh : Sizes) (tm : Terms) (tol : Float) (m : List Float) where
 
     begun-is : (a : Scalars) (t dual pcgtol : Float) (u : Store)
         → RoundBy (fixedIn u)
-        (then (solve (parts sh tm tol m) 4999 1 (work (round+ c) (held (opened a t dual pcgtol (bnrmOf sh u)) (beginStore sh u)))) (lineSearch (parts sh tm tol m) 100))
-        (afterSolve (c .rounds + 1) (c .solver) (c .trials) (opened a t dual pcgtol (bnrmOf sh u)) (keptIn u) (loopIn u pcgtol (beginStore sh u PP) (a .bkden) (a .error)))
+        (then (solve (parts sh tm tol m) 4999 1 (reached (round+ c) (held (opened a t dual pcgtol (bnrmOf sh u)) (beginStore sh u)))) (lineSearch (parts sh tm tol m) 100))
+        (afterSolve (c .rounds + 1) (c .solver) (c .trials) (opened a t dual pcgtol (bnrmOf sh u)) (sparedIn u) (loopIn u pcgtol (beginStore sh u PP) (a .bkden) (a .error)))
     unfolding beginStore withWork round+ _⟨_≔_⟩ upd
     begun-is a t dual pcgtol u =
         let a′ = opened a t dual pcgtol (bnrmOf sh u) in
         let v = beginStore sh u in
         let e : c .solver ≡ c .solver + 0 = omega arith in
-        solve-is (c .rounds + 1) (c .solver) (c .trials) a′ (keptIn u)
-        (solve (parts sh tm tol m) 4999 1 (work (round+ c) (held a′ v)))
+        solve-is (c .rounds + 1) (c .solver) (c .trials) a′ (sparedIn u)
+        (solve (parts sh tm tol m) 4999 1 (reached (round+ c) (held a′ v)))
         (loopIn u pcgtol (v PP) (a .bkden) (a .error))
         (solve-loop sh tm tol m (c .rounds + 1) (c .solver) (c .trials) a′ 4999 1 0 (c .solver) (a .error) (a .bkden) v e)
 
     anew-is : (a : Scalars) (t dual pcgtol : Float) (u : Store)
         → RoundBy (fixedIn u)
-        (then (solve (parts sh tm tol m) 4999 1 (work (round+ c) (held (opened a t dual pcgtol (bnrmOf sh u)) (beginStore sh u)))) (lineSearch (parts sh tm tol m) 100))
-        (afterSolve (c .rounds + 1) (c .solver) (c .trials) (opened a t dual pcgtol (bnrmOf sh u)) (keptIn u) (loopIn u pcgtol (fillOf plus0 (2 * sh .p)) plus0 plus0))
+        (then (solve (parts sh tm tol m) 4999 1 (reached (round+ c) (held (opened a t dual pcgtol (bnrmOf sh u)) (beginStore sh u)))) (lineSearch (parts sh tm tol m) 100))
+        (afterSolve (c .rounds + 1) (c .solver) (c .trials) (opened a t dual pcgtol (bnrmOf sh u)) (sparedIn u) (loopIn u pcgtol (fillOf plus0 (2 * sh .p)) plus0 plus0))
     anew-is a t dual pcgtol u =
         let a′ = opened a t dual pcgtol (bnrmOf sh u) in
-        let o = then (solve (parts sh tm tol m) 4999 1 (work (round+ c) (held a′ (beginStore sh u)))) (lineSearch (parts sh tm tol m) 100) in
-        subst (λ (s : Solution). RoundBy (fixedIn u) o (afterSolve (c .rounds + 1) (c .solver) (c .trials) a′ (keptIn u) s))
+        let o = then (solve (parts sh tm tol m) 4999 1 (reached (round+ c) (held a′ (beginStore sh u)))) (lineSearch (parts sh tm tol m) 100) in
+        subst (λ (s : Solution). RoundBy (fixedIn u) o (afterSolve (c .rounds + 1) (c .solver) (c .trials) a′ (sparedIn u) s))
         (first-round (selfIn sh u) (2 * sh .p) (bnrmOf sh u) pcgtol 4998 0 _ _ _ _ (beginStore sh u PP) (fillOf plus0 (2 * sh .p)) (a .bkden) plus0 (a .error) plus0) (begun-is a t dual pcgtol u)
 
     ready-is : (a : Scalars) (t dual pcgtol : Float) (u : Store)
@@ -245,7 +245,7 @@ module _ (sh : Sizes) (tm : Terms) (tol : Float) (m : List Float) where
     unfolding readyBy solveMut then told countsOf round+ beginStore begun systemOf bnrmOf withWork _⟨_≔_⟩ upd
     ready-is a t dual pcgtol u =
         let a′ = opened a t dual pcgtol (bnrmOf sh u) in
-        choose (λ (o : Opened Failure Data) (s : Solution). RoundBy (fixedIn u) (afterOpen o) (afterSolve (c .rounds + 1) (c .solver) (c .trials) a′ (keptIn u) s))
+        choose (λ (o : Opened Failure Data) (s : Solution). RoundBy (fixedIn u) (afterOpen o) (afterSolve (c .rounds + 1) (c .solver) (c .trials) a′ (sparedIn u) s))
         (le pcgtol plus0) (fails Tolerance (held (opened a t dual pcgtol (a .bnrm)) u)) (ready (held a′ (beginStore sh u))) (err 8) (loopIn u pcgtol (fillOf plus0 (2 * sh .p)) plus0 plus0)
         (record { last = end (failedP Tolerance) (round+ c) (held (opened a t dual pcgtol (a .bnrm)) u); is = refl; ends = record { says = refl; same = refl } })
         (anew-is a t dual pcgtol u)
@@ -296,13 +296,13 @@ module _ (sh : Sizes) (tm : Terms) (tol : Float) (m : List Float) where
       let gap = gapOf sh tm (a .dual) g in
       let t = nextT (sh .p) (a .s) gap (a .t) in
       let u = newtonStore sh tm m t g in
-      let d = held (opened a (a .t) dual (a .tol) (a .bnrm)) g in
+      let d = held (opened a (a .t) dual (a .pcgtol) (a .bnrm)) g in
       choose (λ (o : Opened Failure Data) (x : Next). RoundBy (fixedIn v) (afterOpen c o) x) (lt (gap ⊘ dual) tol) (done d) (readyBy sh a t dual (pcgtolOf sh r a gap u) u)
       (out (converged (countsOf (round+ c)) (record { w = v W; u = v U; t = a .t }))) (afterNewton c a t dual (pcgtolIn c r a gap u) u (rustIn c u))
       (record { last = end convergedP (round+ c) d; is = refl; ends = record { says = refl; same = refl } })
       (newton-is c r a t dual gap u)
 
-  pub round-is : (r : ℕ) (c : CountsP) (a : Scalars) (v : Store) → RoundBy (fixedIn v) (oneRound (parts sh tm tol m) r (work c (held a v))) (roundIn r c a v)
+  pub round-is : (r : ℕ) (c : CountsP) (a : Scalars) (v : Store) → RoundBy (fixedIn v) (oneRound (parts sh tm tol m) r (reached c (held a v))) (roundIn r c a v)
   unfolding oneRound openRound parts opens
   round-is r c a v =
       subst

@@ -19,7 +19,7 @@ use Rattle.design.specs.Mode.{matvecOf}
 use Rattle.line_search.specs.Search.{facesOf, largestOf, sumlognegOf, phiOf, decreases}
 use Rattle.pause.specs.Progress.{Progress, over, going}
 use Rattle.pause.specs.Parts.{Tried, accept, halve, trial+, failed, End, end}
-use Rattle.pause.specs.Unbroken.{Work, work, lineSearch}
+use Rattle.pause.specs.Unbroken.{Reached, reached, lineSearch}
 use Rattle.lasso_optimizer.specs.declared.Scalars.{Scalars}
 use Rattle.lasso_optimizer.specs.Data.{Data, held, storeOf, stepped}
 use Rattle.lasso_optimizer.specs.Trial.{takenStore, decideBy, movedStore, newphiOf, newzStore, tryBy, tries}
@@ -54,17 +54,17 @@ searchIn sh tm m a v =
     search (sh .k) (sh .p) (v Y) (tm .lambda) (matvecOf sh tm m v) (v W) (v U) (part (v DXU) 0 (sh .p)) (part (v DXU) (sh .p) (sh .p)) (a .t) (a .phi) (a .gdx)
 
 module _ (sh : Sizes) (tm : Terms) (tol : Float) (m : List Float) (r k : ℕ) (a : Scalars) where
-  pub record SearchedTo (o : Progress (End Failure Data) (Work Data)) (left : Left) (s : Float) (trials : ℕ) : Type 0 where
+  pub record SearchedTo (o : Progress (End Failure Data) (Reached Data)) (left : Left) (s : Float) (trials : ℕ) : Type 0 where
     pub store : Store
-    pub is : o ≡ going (work (count r k trials) (held (stepped a s) store))
+    pub is : o ≡ going (reached (count r k trials) (held (stepped a s) store))
     pub at : leftIn store ≡ left
 
-  pub record Exceeded (fixed : Fixed) (o : Progress (End Failure Data) (Work Data)) (trials : ℕ) : Type 0 where
+  pub record Exceeded (fixed : Fixed) (o : Progress (End Failure Data) (Reached Data)) (trials : ℕ) : Type 0 where
     pub last : Data
     pub is : o ≡ over (end (failed Search) (count r k trials) last)
     pub same : fixedIn (storeOf last) ≡ fixed
 
-  abbrev pub SearchedBy : List Float → Fixed → Progress (End Failure Data) (Work Data) → Searched → Type 0
+  abbrev pub SearchedBy : List Float → Fixed → Progress (End Failure Data) (Reached Data) → Searched → Type 0
   SearchedBy dxu fixed o (accepted s neww newu newf trials) = SearchedTo o (record { w = neww; u = newu; f = newf; dxu = dxu; fixed = fixed }) s trials
   SearchedBy dxu fixed o (exceeded trials) = Exceeded fixed o trials
 
@@ -72,13 +72,13 @@ module _ (sh : Sizes) (tm : Terms) (tol : Float) (m : List Float) (r k : ℕ) (a
   After dxu fixed f j o x =
       SearchedBy dxu fixed
       (elim o [
-        | accept t ↦ going (work (trial+ (count r k j)) t)
-        | halve t ↦ lineSearch (parts sh tm tol m) f (work (trial+ (count r k j)) t)
+        | accept t ↦ going (reached (trial+ (count r k j)) t)
+        | halve t ↦ lineSearch (parts sh tm tol m) f (reached (trial+ (count r k j)) t)
       ])
       x
 
   pub search-loop : (f j : ℕ) (s : Float) (v : Store)
-      → SearchedBy (v DXU) (fixedIn v) (lineSearch (parts sh tm tol m) f (work (count r k j) (held (stepped a s) v)))
+      → SearchedBy (v DXU) (fixedIn v) (lineSearch (parts sh tm tol m) f (reached (count r k j) (held (stepped a s) v)))
       (searchIn sh tm m a v f j s)
   unfolding lineSearch search parts tries tryBy decideBy movedStore newzStore newphiOf takenStore matvecOf facesOf largestOf sumlognegOf sumlogneg phiOf decreases trial+ _⟨_≔_⟩ upd
   search-loop zero j s v = record { last = held (stepped a s) v; is = refl; same = refl }

@@ -20,13 +20,13 @@ use Rattle.layout.specs.Store.{upd}
 use Rattle.layout.specs.Slots.{Store, _⟨_≔_⟩}
 use Rattle.layout.specs.Slots.{Slot.W, Slot.U, Slot.F, Slot.D1, Slot.D2, Slot.PRB, Slot.PRS, Slot.DXU, Slot.GRAD, Slot.R, Slot.RR, Slot.ZS, Slot.PP}
 use Rattle.layout.specs.Slots.{Slot.CENTRE, Slot.SCALE, Slot.RECIP, Slot.GRAM, Slot.Y, Slot.Z, Slot.DESIGN}
-use Rattle.bg_solver.specs.Solver.{errorOf, turned as turnedS}
+use Rattle.bg_solver.specs.Solver.{errorOf, turned}
 use Rattle.inner_solver.specs.Inner.{halves, lowTimes, highTimes, solvedOf, timesOf, systemOf, withWork, roundOf, turnStore, turnError}
 use Rattle.pause.specs.Progress.{Progress, going}
 use Rattle.pause.specs.Parts.{Turned, more, stop, Counts, solver+, End}
-use Rattle.pause.specs.Unbroken.{Work, work, solve}
+use Rattle.pause.specs.Unbroken.{Reached, reached, solve}
 use Rattle.lasso_optimizer.specs.declared.Scalars.{Scalars}
-use Rattle.lasso_optimizer.specs.Data.{Data, held, turned}
+use Rattle.lasso_optimizer.specs.Data.{Data, held, withRound}
 use Rattle.lasso_optimizer.specs.Solving.{turnTo, turns, aim}
 use Rattle.lasso_optimizer.specs.Fit.{parts}
 use Rattle.smartcore.specs.BgSolver.{Solver, Solution, ok, err, loop}
@@ -45,7 +45,7 @@ abbrev pub fixedIn : Store → Fixed
 fixedIn v = record { gram = v GRAM; y = v Y; design = v DESIGN; centre = v CENTRE; scale = v SCALE; recip = v RECIP }
 
 -- what no round of the solver writes and the search reads
-pub record Kept : Type 0 where
+pub record Spared : Type 0 where
   pub w : List Float
   pub u : List Float
   pub f : List Float
@@ -53,8 +53,8 @@ pub record Kept : Type 0 where
   pub z : List Float
   pub fixed : Fixed
 
-abbrev pub keptIn : Store → Kept
-keptIn v = record { w = v W; u = v U; f = v F; grad = v GRAD; z = v Z; fixed = fixedIn v }
+abbrev pub sparedIn : Store → Spared
+sparedIn v = record { w = v W; u = v U; f = v F; grad = v GRAD; z = v Z; fixed = fixedIn v }
 
 -- ---- the solver's three functions: of the vector that it multiplies the product with the Gram takes the first p elements
 
@@ -92,49 +92,49 @@ choose Rel false o₁ o₂ x₁ x₂ p q = q
 
 -- from k₀ solver rounds on
 module _ (sh : Sizes) (tm : Terms) (tol : Float) (m : List Float) (r k₀ j : ℕ) (a : Scalars) where
-  pub record SolvedTo (kept : Kept) (o : Progress (End Failure Data) (Work Data)) (error : Float) (x : List Float) (made : ℕ) : Type 0 where
+  pub record SolvedTo (kept : Spared) (o : Progress (End Failure Data) (Reached Data)) (error : Float) (x : List Float) (made : ℕ) : Type 0 where
     pub bkden : Float
     pub store : Store
-    pub is : o ≡ going (work (count r (k₀ + made) j) (aim sh tm (held (turned a error bkden) store)))
-    pub same : keptIn store ≡ kept
+    pub is : o ≡ going (reached (count r (k₀ + made) j) (aim sh tm (held (withRound a error bkden) store)))
+    pub same : sparedIn store ≡ kept
     pub at : store DXU ≡ x
 
-  abbrev pub SolvedBy : Kept → Progress (End Failure Data) (Work Data) → Solution → Type 0
+  abbrev pub SolvedBy : Spared → Progress (End Failure Data) (Reached Data) → Solution → Type 0
   SolvedBy kept o (ok error x made) = SolvedTo kept o error x made
   SolvedBy kept o (err k) = ⊥
 
-  module _ (kept : Kept) (f k sol : ℕ) where
+  module _ (kept : Spared) (f k sol : ℕ) where
     abbrev After : Turned Data → Solution → Type 0
     After o s =
         SolvedBy kept
         (elim o [
-          | more t ↦ solve (parts sh tm tol m) f (k + 1) (work (solver+ (count r sol j)) t)
-          | stop t ↦ going (work (solver+ (count r sol j)) (aim sh tm t))
+          | more t ↦ solve (parts sh tm tol m) f (k + 1) (reached (solver+ (count r sol j)) t)
+          | stop t ↦ going (reached (solver+ (count r sol j)) (aim sh tm t))
         ])
         s
 
   ended : (made sol : ℕ) (error bkden : Float) (v : Store) → sol ≡ k₀ + made
-      → SolvedTo (keptIn v) (going (work (count r sol j) (aim sh tm (held (turned a error bkden) v)))) error (v DXU) made
+      → SolvedTo (sparedIn v) (going (reached (count r sol j) (aim sh tm (held (withRound a error bkden) v)))) error (v DXU) made
   ended made sol error bkden v e = record {
     bkden = bkden;
     store = v;
-    is = ap (λ (k : ℕ). going (work (count r k j) (aim sh tm (held (turned a error bkden) v)))) e;
+    is = ap (λ (k : ℕ). going (reached (count r k j) (aim sh tm (held (withRound a error bkden) v)))) e;
     same = refl;
     at = refl;
   }
 
   pub solve-loop : (f k made sol : ℕ) (error bkden : Float) (v : Store) → sol ≡ k₀ + made
-      → SolvedBy (keptIn v) (solve (parts sh tm tol m) f k (work (count r sol j) (held (turned a error bkden) v)))
-      (loop (selfIn sh v) (2 * sh .p) (a .bnrm) (a .tol) f k made (v DXU) (v R) (v RR) (v ZS) (v PP) bkden error)
-  unfolding solve loop parts turns turnTo turnError roundOf turnStore withWork systemOf turnedS errorOf solver+ _⟨_≔_⟩ upd
+      → SolvedBy (sparedIn v) (solve (parts sh tm tol m) f k (reached (count r sol j) (held (withRound a error bkden) v)))
+      (loop (selfIn sh v) (2 * sh .p) (a .bnrm) (a .pcgtol) f k made (v DXU) (v R) (v RR) (v ZS) (v PP) bkden error)
+  unfolding solve loop parts turns turnTo turnError roundOf turnStore withWork systemOf turned errorOf solver+ _⟨_≔_⟩ upd
   solve-loop zero k made sol error bkden v e = ended made sol error bkden v e
   solve-loop (suc f) k made sol error bkden v e =
       let v′ = turnStore sh (eqb k 1) bkden v in
       let bkden′ = roundOf sh (eqb k 1) bkden v .bkden in
       let error′ = turnError sh (eqb k 1) bkden (a .bnrm) v in
       let e′ : sol + 1 ≡ k₀ + (made + 1) = omega arith in
-      choose (After (keptIn v) f k sol) (le error′ (a .tol)) (stop (held (turned a error′ bkden′) v′)) (more (held (turned a error′ bkden′) v′))
+      choose (After (sparedIn v) f k sol) (le error′ (a .pcgtol)) (stop (held (withRound a error′ bkden′) v′)) (more (held (withRound a error′ bkden′) v′))
       (ok error′ (v′ DXU) (made + 1))
-      (loop (selfIn sh v′) (2 * sh .p) (a .bnrm) (a .tol) f (k + 1) (made + 1) (v′ DXU) (v′ R) (v′ RR) (v′ ZS) (v′ PP) bkden′ error′)
+      (loop (selfIn sh v′) (2 * sh .p) (a .bnrm) (a .pcgtol) f (k + 1) (made + 1) (v′ DXU) (v′ R) (v′ RR) (v′ ZS) (v′ PP) bkden′ error′)
       (ended (made + 1) (sol + 1) error′ bkden′ v′ e′)
       (solve-loop f (k + 1) (made + 1) (sol + 1) error′ bkden′ v′ e′)

@@ -19,7 +19,7 @@ unfoldable pub fitOf : ℕ → ℕ → List Float → List Float → Settings �
 fitOf n p x y st =
     let sh = sizesOf n p st in
     let tm = termsOf st n in
-    optimized sh tm (st .tol) x (st .rounds) (startStore sh (st .normalise) tm x y)
+    optimized sh tm (st .tol) x (st .«max_iter») (startStore sh (st .normalise) tm x y)
 
 unfoldable pub countsOf : CountsP → Counts
 countsOf c = record { openings = c .rounds; solver = c .solver; trials = c .trials }

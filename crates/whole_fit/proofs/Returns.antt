@@ -21,24 +21,24 @@ use Rattle.checks.proofs.Laws.{accepted}
 use Rattle.elastic_net.specs.declared.Resumed.{Resumed}
 use Rattle.elastic_net.specs.declared.Started.{Started}
 use Rattle.elastic_net.specs.declared.Started.the-variants.{Ready as ReadyS, Refused as RefusedS}
-use Rattle.elastic_net.specs.ElasticNet.{pending, Outcome, outcome, byCheck, begun, byStartCheck, startOf}
+use Rattle.elastic_net.specs.ElasticNet.{pending, Outcome, outcome, byCheck, startOutcome, byStartCheck, startOf}
 use Rattle.elastic_net.proofs.Calls.{few-rounds}
 use Rattle.smartcore.specs.LassoOptimizer.{Fitted, converged, limit, failed}
 use Rattle.smartcore.specs.ElasticNet.{ElasticNet, fit}
 use Rattle.promises.specs.Outcome.{outcomeOf, answerOf}
 use Rattle.promises.specs.Chain.{Starts, Resumes, Chain, last, Enough}
-use Rattle.promises.proofs.Unique.{begun-same}
+use Rattle.promises.proofs.Unique.{starts-same}
 use Rattle.promises.proofs.Refused.{start-refused, start-accepted}
 use Rattle.promises.proofs.Pauses.{pauses-end-as-the-rust}
 use Rattle.whole_fit.specs.declared.Whole.{Whole}
 use Rattle.whole_fit.specs.Fit.{wholeOf, Fits, startWhole, refusedAs, HasEnded, Settles}
 
 module _ (n p : ℕ) (x y : List Float) (st : Settings) (s : List Float) (wl : ℕ) {k : Checked} (q : k ≡ limitsOf n p (length x) (length y) wl st (length s)) where
-  pub passes : (o : Started) {s₁ : List Float} → k ≡ Fine → Starts n p x y st s o s₁ → begun o s₁ ≡ startWhole n p x y st s wl
+  pub passes : (o : Started) {s₁ : List Float} → k ≡ Fine → Starts n p x y st s o s₁ → startOutcome o s₁ ≡ startWhole n p x y st s wl
   unfolding startWhole
   passes o e h = rw (sym q ∙ e) h
 
-  pub refuses : {r : Refusal} → k ≡ Bad r → begun (RefusedS r) s ≡ startWhole n p x y st s wl
+  pub refuses : {r : Refusal} → k ≡ Bad r → startOutcome (RefusedS r) s ≡ startWhole n p x y st s wl
   unfolding startWhole
   refuses e = rw (sym q ∙ e)
 
@@ -65,14 +65,14 @@ unfolding total
 one-enough M = omega arith
 
 -- what the start of a whole fit answered and left
-module _ (n p : ℕ) (x y : List Float) (st : Settings) (s w : List Float) (o : Started) {s₁ : List Float} (h : begun o s₁ ≡ startWhole n p x y st s (length w)) where
-  checks : (k : Checked) → limitsOf n p (length x) (length y) (length w) st (length s) ≡ k → begun o s₁ ≡ byStartCheck k s (startOf n p x y st s)
+module _ (n p : ℕ) (x y : List Float) (st : Settings) (s w : List Float) (o : Started) {s₁ : List Float} (h : startOutcome o s₁ ≡ startWhole n p x y st s (length w)) where
+  checks : (k : Checked) → limitsOf n p (length x) (length y) (length w) st (length s) ≡ k → startOutcome o s₁ ≡ byStartCheck k s (startOf n p x y st s)
   unfolding startWhole
   checks k e = h ∙ ap (λ (i : Checked). byStartCheck i s (startOf n p x y st s)) e
 
   -- 1 to 4 refuse, and nothing was written
   limits-refuse : {r : Refusal} → limitsOf n p (length x) (length y) (length w) st (length s) ≡ Bad r → (o ≡ RefusedS r) × (s₁ ≡ s)
-  limits-refuse {r} e = begun-same o (RefusedS r) s₁ s (checks (Bad r) e)
+  limits-refuse {r} e = starts-same o (RefusedS r) s₁ s (checks (Bad r) e)
 
   -- or they do not: then the start, which is given no weights, finds the same
   module _ (e : limitsOf n p (length x) (length y) (length w) st (length s) ≡ Fine) where
@@ -116,11 +116,11 @@ module _ (n p : ℕ) (x y : List Float) (st : Settings) (s w : List Float) (o : 
     pub many-weights : length w ≡ p
     many-weights = accepted fine .weights
 
-    pub few : st .rounds ≤ 1000
+    pub few : st .«max_iter» ≤ 1000
     few = few-rounds (accepted fine)
 
     -- calls whose budgets add up to 5,100·M at least
-    runs : {b : ℕ} {bs : List ℕ} (u : Resumed) {w₂ s₂ : List Float} → Enough (st .rounds) (b ∷ bs)
+    runs : {b : ℕ} {bs : List ℕ} (u : Resumed) {w₂ s₂ : List Float} → Enough (st .«max_iter») (b ∷ bs)
         → Chain n p x y st (b ∷ bs) a s₁ u w₂ s₂ → outcome u w₂ s₂ ≡ wholeOf n p x y st s w
     unfolding wholeOf
     runs {b} {bs} u {w₂} {s₂} enough c = go (startValues x y n p (st .normalise)) refl where
@@ -133,7 +133,7 @@ module _ (n p : ℕ) (x y : List Float) (st : Settings) (s w : List Float) (o : 
           let z : _≡_ {A = ℕ} 0 1 = cc in
           absurd (omega arith)
 
-    module _ {b : ℕ} {bs : List ℕ} (u : Resumed) {w₂ s₂ : List Float} (enough : Enough (st .rounds) (b ∷ bs)) (c : Chain n p x y st (b ∷ bs) a s₁ u w₂ s₂) where
+    module _ {b : ℕ} {bs : List ℕ} (u : Resumed) {w₂ s₂ : List Float} (enough : Enough (st .«max_iter») (b ∷ bs)) (c : Chain n p x y st (b ∷ bs) a s₁ u w₂ s₂) where
       pub has-ended : HasEnded u
       has-ended q = whole-ends n p x y st s w (sym (ap (λ (o : Outcome). o .answer) (runs u enough c)) ∙ q)
 
@@ -141,12 +141,12 @@ module _ (n p : ℕ) (x y : List Float) (st : Settings) (s w : List Float) (o : 
       settles h = rw (h .says, h .paused) (runs u enough c)
 
     -- one call with 5,100·M steps is a chain
-    module _ (u : Resumed) {w₂ s₂ : List Float} (c : Resumes n p x y st a s₁ w (5100 * st .rounds) u w₂ s₂) where
-      one-call : Chain n p x y st (5100 * st .rounds ∷ []) a s₁ u w₂ s₂
+    module _ (u : Resumed) {w₂ s₂ : List Float} (c : Resumes n p x y st a s₁ w (5100 * st .«max_iter») u w₂ s₂) where
+      one-call : Chain n p x y st (5100 * st .«max_iter» ∷ []) a s₁ u w₂ s₂
       one-call = last w many-weights c (λ b. refl)
 
       pub one-ended : HasEnded u
-      one-ended = has-ended u (one-enough (st .rounds)) one-call
+      one-ended = has-ended u (one-enough (st .«max_iter»)) one-call
 
       pub one-settles : {o : Whole} → Settles u o → Fits n p x y st s w o w₂ s₂
-      one-settles = settles u (one-enough (st .rounds)) one-call
+      one-settles = settles u (one-enough (st .«max_iter»)) one-call

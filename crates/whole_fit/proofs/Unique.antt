@@ -8,8 +8,8 @@ use Rattle.refusal.specs.declared.Refusal.the-variants.{Record}
 use Rattle.refusal.proofs.Numbers.{refusalOf, refusal-back}
 use Rattle.settings.specs.declared.Settings.{Settings}
 use Rattle.elastic_net.specs.declared.Started.{Started}
-use Rattle.elastic_net.specs.ElasticNet.{Said, pending, converged, limit, refused, Outcome, begun}
-use Rattle.promises.proofs.Unique.{begun-same}
+use Rattle.elastic_net.specs.ElasticNet.{Said, pending, converged, limit, refused, Outcome, startOutcome}
+use Rattle.promises.proofs.Unique.{starts-same}
 use Rattle.whole_fit.specs.declared.Final.{Final}
 use Rattle.whole_fit.specs.declared.Final.the-variants.{Done, Refused}
 use Rattle.whole_fit.specs.declared.Whole.{Whole}
@@ -48,5 +48,5 @@ module _ (n p : ℕ) (x y : List Float) (st : Settings) (s : List Float) where
       }
 
   pub start-whole-unique : (wl : ℕ) (r r′ : Started) (s₁ s₂ : List Float)
-      → begun r s₁ ≡ startWhole n p x y st s wl → begun r′ s₂ ≡ startWhole n p x y st s wl → (r ≡ r′) × (s₁ ≡ s₂)
-  start-whole-unique wl r r′ s₁ s₂ h k = begun-same r r′ s₁ s₂ (h ∙ sym k)
+      → startOutcome r s₁ ≡ startWhole n p x y st s wl → startOutcome r′ s₂ ≡ startWhole n p x y st s wl → (r ≡ r′) × (s₁ ≡ s₂)
+  start-whole-unique wl r r′ s₁ s₂ h k = starts-same r r′ s₁ s₂ (h ∙ sym k)

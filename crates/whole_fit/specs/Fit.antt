@@ -14,7 +14,7 @@ use Rattle.records.specs.Record.{countsBack}
 use Rattle.checks.specs.Checks.{limitsOf, startValues}
 use Rattle.records.specs.Records.{endedOf}
 use Rattle.elastic_net.specs.declared.Resumed.{Resumed}
-use Rattle.elastic_net.specs.ElasticNet.{Said, pending, refused, doneAs, said, Outcome, byCheck, Begun, byStartCheck, startOf}
+use Rattle.elastic_net.specs.ElasticNet.{Said, pending, refused, doneAs, said, Outcome, byCheck, StartOutcome, byStartCheck, startOf}
 use Rattle.smartcore.specs.ElasticNet.{fit}
 use Rattle.promises.specs.Outcome.{outcomeOf}
 use Rattle.whole_fit.specs.declared.Final.{Final}
@@ -45,7 +45,7 @@ Fits n p x y st s w r w′ s′ = wholeOutcome r w′ s′ ≡ wholeOf n p x y s
 -- ---- what `start_whole`, `refused` and `settled` answer
 
 -- a start that is told the weights' length: 1 to 4 with it come first
-unfoldable pub startWhole : ℕ → ℕ → List Float → List Float → Settings → List Float → ℕ → Begun
+unfoldable pub startWhole : ℕ → ℕ → List Float → List Float → Settings → List Float → ℕ → StartOutcome
 startWhole n p x y st s wl = byStartCheck (limitsOf n p (length x) (length y) wl st (length s)) s (startOf n p x y st s)
 
 -- a fit that was not begun: an ended record with counts 0

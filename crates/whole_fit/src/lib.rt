@@ -14,7 +14,7 @@ use refusal::Refusal;
 use refusal::Way;
 use settings::Settings;
 ghost use mathlib.Core.Path.{_≡_};
-ghost use Rattle.elastic_net.specs.ElasticNet.{begun};
+ghost use Rattle.elastic_net.specs.ElasticNet.{startOutcome};
 ghost use Rattle.whole_fit.specs.Fit.{wholeOutcome, wholeOf, startWhole, refusedAs, Settles, HasEnded};
 
 // What a whole fit answers: as a resuming call, but never pending.
@@ -71,7 +71,7 @@ pub fn start_whole(
     s: &mut [f64],
     weights: usize,
 ) -> Started
-    ensures { λ r. ⌜ begun r (now (s .exit)) ≡ startWhole n p (now (x .entry)) (now (y .entry)) st (now (s .entry)) weights ⌝ }
+    ensures { λ r. ⌜ startOutcome r (now (s .exit)) ≡ startWhole n p (now (x .entry)) (now (y .entry)) st (now (s .entry)) weights ⌝ }
 {
     match limits(n, p, x.len(), y.len(), weights, st, s.len()) {
         Checked::Fine => start(n, p, x, y, st, s),
@@ -93,7 +93,7 @@ pub fn fit(
         ≡ wholeOf n p (now (x .entry)) (now (y .entry)) st (now (s .entry)) (now (w .entry)) ⌝ }
 {
     match start_whole(n, p, x, y, st, s, w.len()) {
-        Started::Ready(rec) => settled(resume(n, p, x, y, st, rec, s, w, 5100 * st.rounds)),
+        Started::Ready(rec) => settled(resume(n, p, x, y, st, rec, s, w, 5100 * st.max_iter)),
         Started::Refused(r) => refused(r),
     }
 }

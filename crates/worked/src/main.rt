@@ -36,7 +36,7 @@ fn settings() -> Settings {
         alpha: 0.01,
         l1_ratio: 0.5,
         tol: 0.0001,
-        rounds: 100,
+        max_iter: 100,
         panel_rows: 256,
         panel_cols: 32,
         normalise: true,

@@ -16,7 +16,7 @@ use Rattle.c_values.proofs.write_settings.Tie as tie
 
 written : (st : Settings) (l : List ℕ) {f : List ℕ} {m z : ℕ} → length l ≡ settings-words
     → f ≡ sets l 0 (floatsWords (record { 0 = st .alpha; 1 = st .«l1_ratio»; 2 = st .tol })) → m ≡ truthWord (st .normalise) → z ≡ truthWord (st .lazy)
-    → sets f 3 (st .rounds ∷ st .«panel_rows» ∷ st .«panel_cols» ∷ m ∷ z ∷ []) ≡ settingsWords st
+    → sets f 3 (st .«max_iter» ∷ st .«panel_rows» ∷ st .«panel_cols» ∷ m ∷ z ∷ []) ≡ settingsWords st
 unfolding settingsWords put
 written st l e ef em ez = rw (ef, em, ez) (put-all l (settingsWords st) (sym e))
 

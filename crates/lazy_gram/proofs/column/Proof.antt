@@ -16,7 +16,7 @@ least-of-requires c κs = omega arith
 
 fill-panel-requires : tie.Need-fill-panel-requires
 fill-panel-requires c κs =
-    let st = c .before .before .before .before in
+    let st = c .before .before .before .before .before in
     let lo = c .before .least-of in
     record {
       matrix = st .pre .lie .matrix;
@@ -30,51 +30,51 @@ fill-panel-requires c κs =
 
 pairs-requires : tie.Need-pairs-requires
 pairs-requires c κs =
-    let st = c .before .before .before .before .before .before .before .before in
+    let st = c .before .before .before .before .before .before .before .before .before in
     let lo = c .before .before .before .before .before .least-of in
     column-pairs (st .pre .lie) (st .args .jb) (st .pre .inside) (lo .ensures) (c .before .before .before .fill-panel .ensures)
 
 mul-block : tie.Need-mul-block
 mul-block c =
-    let st = c .before .before .before .before .before .before .before .before .before .before .before .before in
+    let st = c .before .before .before .before .before .before .before .before .before .before .before .before .before in
     let g = st .args in
     let lo = c .before .before .before .before .before .before .before .before .before .least-of in
-    let h = rows-room (g .jb * g .cc) (lo .result) (g .p) (omega (arith, lo .ensures, st .pre)) in
+    let h = rows-room (g .jb * g .pl .cc) (lo .result) (g .p) (omega (arith, lo .ensures, st .pre)) in
     omega (arith, st .pre)
 
 add-block : tie.Need-add-block
 add-block c =
-    let st = c .before .before .before .before .before .before .before .before .before .before .before .before in
+    let st = c .before .before .before .before .before .before .before .before .before .before .before .before .before .before in
     let g = st .args in
-    let lo = c .before .before .before .before .before .before .before .before .before .least-of in
-    let h = rows-room (g .jb * g .cc) (lo .result) (g .p) (omega (arith, lo .ensures, st .pre)) in
+    let lo = c .before .before .before .before .before .before .before .before .before .before .least-of in
+    let h = rows-room (g .jb * g .pl .cc) (lo .result) (g .p) (omega (arith, lo .ensures, st .pre)) in
     omega (arith, st .pre)
 
 add-block-2 : tie.Need-add-block-2
 add-block-2 c =
-    let st = c .before .before .before .before .before .before .before .before .before .before .before .before in
+    let st = c .before .before .before .before .before .before .before .before .before .before .before .before .before .before in
     let g = st .args in
-    let lo = c .before .before .before .before .before .before .before .before .before .least-of in
-    let h = rows-room (g .jb * g .cc) (lo .result) (g .p) (omega (arith, lo .ensures, st .pre)) in
+    let lo = c .before .before .before .before .before .before .before .before .before .before .least-of in
+    let h = rows-room (g .jb * g .pl .cc) (lo .result) (g .p) (omega (arith, lo .ensures, st .pre)) in
     omega (arith, st .pre)
 
 block-requires : tie.Need-block-requires
 block-requires c κs =
-    let st = c .before .before .before .before .before .before .before .before .before .before .before .before in
-    let lo = c .before .before .before .before .before .before .before .before .before .least-of in
-    let filled = c .before .before .before .before .before .before .before .fill-panel .ensures in
-    column-block (st .pre .lie) (st .args .jb) (st .pre .inside) (lo .ensures) filled _ (c .before .before .before .pairs .ensures)
+    let st = c .before .before .before .before .before .before .before .before .before .before .before .before .before .before in
+    let lo = c .before .before .before .before .before .before .before .before .before .before .least-of in
+    let filled = c .before .before .before .before .before .before .before .before .fill-panel .ensures in
+    column-block (st .pre .lie) (st .args .jb) (st .pre .inside) (lo .ensures) filled _ (c .before .before .before .before .pairs .ensures)
 
 same-length : tie.Need-same-length
 same-length c = omega arith
 
 returns : tie.Need-returns
 returns c =
-    let st = c .before .before .before .before .before .before .before .before .before .before .before .before .before .before .before in
-    let lo = c .before .before .before .before .before .before .before .before .before .before .before .before .least-of in
-    let filled = c .before .before .before .before .before .before .before .before .before .before .fill-panel .ensures in
+    let st = c .before .before .before .before .before .before .before .before .before .before .before .before .before .before .before .before .before in
+    let lo = c .before .before .before .before .before .before .before .before .before .before .before .before .before .least-of in
+    let filled = c .before .before .before .before .before .before .before .before .before .before .before .fill-panel .ensures in
     rw (lo .ensures) at
-    (column-turn (st .pre .lie) (st .args .jb) (st .pre .inside) (lo .ensures) filled _ _ (c .before .before .before .before .before .before .pairs .ensures)
+    (column-turn (st .pre .lie) (st .args .jb) (st .pre .inside) (lo .ensures) filled _ _ (c .before .before .before .before .before .before .before .pairs .ensures)
     (c .before .before .block .ensures))
 
 pub column-spec : {M : Type 1} → statement M

@@ -5,7 +5,7 @@ use Prim.Native.Nat.{ℕ, suc, _+_, _-_, _*_, _≤_, _<_}
 use native.Mathlib.Nat.{mul-add, mul-one, suc-mul, add-mul}
 use native.Mathlib.Omega.{arith}
 use Rattle.gram_panels.proofs.Mats.{row-le, Striped, striped-none, striped-more, striped-all, beyond-rows}
-use Rattle.lazy_gram.specs.Nest.{right-of, turned}
+use Rattle.lazy_gram.specs.Nest.{right-of, fromBelow}
 use Rattle.lazy_gram.proofs.mirror.Statement.{statement}
 use Rattle.lazy_gram.proofs.mirror.Tie as tie
 
@@ -21,7 +21,7 @@ room k p h =
     omega (arith, suc-mul k p, mul-add k p 1, mul-one k)
 
 abbrev Inv-loop : tie.InvT-loop
-Inv-loop s₀ ga p k₀ s k = Striped s₀ (ga + 1) (p + 1) (right-of p) (turned s₀ ga p) p s k
+Inv-loop s₀ ga p k₀ s k = Striped s₀ (ga + 1) (p + 1) (right-of p) (fromBelow s₀ ga p) p s k
 
 abbrev μ-loop : tie.MeasureT-loop
 μ-loop s₀ ga p k₀ s k = p - k

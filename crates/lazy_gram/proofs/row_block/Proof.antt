@@ -14,12 +14,12 @@ use Rattle.lazy_gram.proofs.row_block.Statement.{statement}
 use Rattle.lazy_gram.proofs.row_block.Tie as tie
 
 abbrev Inv-loop : tie.InvT-loop
-Inv-loop m p row nr s₀ ce sc le ri cc ga jb₀ j₀ s jb j =
-    (j ≡ jb * cc) × (jb ≤ j) × (length s ≡ length s₀)
-    × Like le (ri + nr * cc) s (advancedLow m p row nr s₀ ce sc ga (least p j))
+Inv-loop m p row nr s₀ pl jb₀ j₀ s jb j =
+    (j ≡ jb * pl .cc) × (jb ≤ j) × (length s ≡ length s₀)
+    × Like (pl .le) (pl .ri + nr * pl .cc) s (advancedLow m p row nr s₀ pl (least p j))
 
 abbrev μ-loop : tie.MeasureT-loop
-μ-loop m p row nr s₀ ce sc le ri cc ga jb₀ j₀ s jb j = p - j
+μ-loop m p row nr s₀ pl jb₀ j₀ s jb j = p - j
 
 loop-holds : tie.Need-loop-holds Inv-loop μ-loop
 loop-holds c = (sym (zero-mul _), omega arith, refl, block-start _ _ _ _ _ _)
@@ -55,12 +55,12 @@ loop-less c = omega arith
 
 loop-again : tie.Need-loop-again Inv-loop μ-loop
 loop-again c =
-    let at = c .before .before .before .before .before in
+    let at = c .before .before .before .before .before .before in
     let st = at .before .before .before in
     let e =
     block-turn (st .pre) (at .loop .jb) (at .loop .j) (at .loop .s) _ (at .loop .inv .0) (omega arith) (at .loop .inv .3)
-    (c .before .before .column .ensures) in
-    let q : at .loop .j + st .args .cc ≡ (at .loop .jb + 1) * st .args .cc = rw (at .loop .inv .0, add-one, suc-mul) in
+    (c .before .before .before .column .ensures) in
+    let q : at .loop .j + st .args .pl .cc ≡ (at .loop .jb + 1) * st .args .pl .cc = rw (at .loop .inv .0, add-one, suc-mul) in
     (q, omega arith, e .len ∙ length-mat _ _ _ _ _ _, e)
 
 same-length : tie.Need-same-length Inv-loop μ-loop

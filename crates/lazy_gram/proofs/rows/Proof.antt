@@ -13,11 +13,11 @@ use Rattle.lazy_gram.proofs.rows.Statement.{statement}
 use Rattle.lazy_gram.proofs.rows.Tie as tie
 
 abbrev Inv-loop : tie.InvT-loop
-Inv-loop m n p rr s₀ ce sc le ri cc ga row₀ s row =
-    (row ≤ n) × (length s ≡ length s₀) × Like le (ri + rr * cc) s (mat s₀ ga p low (entry (cell m p s₀ ce sc) row) p)
+Inv-loop m n p rr s₀ pl row₀ s row =
+    (row ≤ n) × (length s ≡ length s₀) × Like (pl .le) (pl .ri + rr * pl .cc) s (mat s₀ (pl .ga) p low (entry (cell m p s₀ (pl .ce) (pl .sc)) row) p)
 
 abbrev μ-loop : tie.MeasureT-loop
-μ-loop m n p rr s₀ ce sc le ri cc ga row₀ s row = n - row
+μ-loop m n p rr s₀ pl row₀ s row = n - row
 
 loop-holds : tie.Need-loop-holds Inv-loop μ-loop
 loop-holds c =
@@ -49,9 +49,9 @@ loop-again c =
     let st = at .before .before .before in
     let lo = c .before .before .before .before .least-of in
     let lie = rows-lie (st .pre .0) _ _ (st .args .s .now) (at .loop .inv .0) (lo .ensures) refl in
-    let h = mul-le-mul-right (st .args .cc) (let k : lo .result ≤ st .args .rr = omega (arith, lo .ensures) in k) in
+    let h = mul-le-mul-right (st .args .pl .cc) (let k : lo .result ≤ st .args .rr = omega (arith, lo .ensures) in k) in
     let e =
-    rows-turn lie (st .args .ri + st .args .rr * st .args .cc) (at .loop .s) _ (omega arith) (st .pre .0 .right) (at .loop .inv .2)
+    rows-turn lie (st .args .pl .ri + st .args .rr * st .args .pl .cc) (at .loop .s) _ (omega arith) (st .pre .0 .right) (at .loop .inv .2)
     (c .before .before .row-block .ensures) in
     (omega (arith, lo .ensures), e .len ∙ length-mat _ _ _ _ _ _, e)
 

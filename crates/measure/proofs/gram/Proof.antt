@@ -1,11 +1,11 @@
 -- `measure::gram` meets its contract. Assumes nothing.
-use Rattle.measure.proofs.Rooms.{lazy-gram}
+use Rattle.beginning.proofs.Starts.{lent}
 use native.Mathlib.Omega.{arith}
 use Rattle.measure.proofs.gram.Statement.{statement}
 use Rattle.measure.proofs.gram.Tie as tie
 
 gram-requires : tie.Need-gram-requires
-gram-requires c κs = lazy-gram (c .before .before .before .before .before .before .pre) (c .before .if1 .taken)
+gram-requires c κs = lent (c .before .before .before .before .before .pre .begins) (c .before .if1 .taken)
 
 same-length : tie.Need-same-length
 same-length c = omega arith
@@ -14,7 +14,7 @@ returns : tie.Need-returns
 returns c = tt
 
 gram-requires-2 : tie.Need-gram-requires-2
-gram-requires-2 c κs = c .before .before .before .before .before .before .pre .held .room
+gram-requires-2 c κs = c .before .before .before .before .before .pre .begins .room
 
 same-length-2 : tie.Need-same-length-2
 same-length-2 c = omega arith

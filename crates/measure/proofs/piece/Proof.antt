@@ -1,5 +1,6 @@
 -- `measure::piece` meets its contract. Assumes nothing.
-use Rattle.measure.proofs.Rooms.{matrix-given, from-w, from-nu}
+use Rattle.beginning.proofs.Starts.{given}
+use Rattle.measure.proofs.Rooms.{held, from-w, from-nu}
 use native.Mathlib.Omega.{arith}
 use borrow.Author.Needs.{needs}
 use Rattle.measure.proofs.piece.Statement.{statement}
@@ -16,7 +17,7 @@ returns c = tt
 
 first-constant-requires : tie.Need-first-constant-requires
 first-constant-requires c κs =
-    let h = c .before .before .before .before .before .pre .held in
+    let h = held (c .before .before .before .before .before .pre) in
     (h .matrix, (h .rows, h .columns))
 
 enum-told : tie.Need-enum-told
@@ -29,7 +30,7 @@ returns-2 : tie.Need-returns-2
 returns-2 c = tt
 
 statistics-requires : tie.Need-statistics-requires
-statistics-requires c κs = matrix-given (c .before .before .before .before .before .before .before .before .before .pre .held)
+statistics-requires c κs = given (c .before .before .before .before .before .before .before .before .before .pre .begins)
 
 same-length-2 : tie.Need-same-length-2
 same-length-2 c = omega arith
@@ -38,7 +39,7 @@ returns-3 : tie.Need-returns-3
 returns-3 c = tt
 
 stored-requires : tie.Need-stored-requires
-stored-requires c κs = c .before .before .before .before .before .before .before .pre .held
+stored-requires c κs = held (c .before .before .before .before .before .before .before .pre)
 
 same-length-3 : tie.Need-same-length-3
 same-length-3 c = omega arith
@@ -57,7 +58,7 @@ returns-5 c = tt
 
 matvec-requires : tie.Need-matvec-requires
 matvec-requires c κs =
-    let h = c .before .before .before .before .before .before .before .before .before .pre .held in
+    let h = held (c .before .before .before .before .before .before .before .before .before .pre) in
     (h, from-w h)
 
 same-length-5 : tie.Need-same-length-5
@@ -68,7 +69,7 @@ returns-6 c = tt
 
 transposed-requires : tie.Need-transposed-requires
 transposed-requires c κs =
-    let h = c .before .before .before .before .before .before .before .before .before .pre .held in
+    let h = held (c .before .before .before .before .before .before .before .before .before .pre) in
     (h, from-nu h)
 
 same-length-6 : tie.Need-same-length-6

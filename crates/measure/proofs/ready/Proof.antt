@@ -1,24 +1,25 @@
 -- `measure::ready` meets its contract: lengths do not change. Assumes nothing.
 use native.Mathlib.Omega.{arith}
-use Rattle.measure.proofs.Rooms.{as-long, matrix-given}
+use Rattle.beginning.proofs.Starts.{given}
+use Rattle.measure.proofs.Rooms.{as-long}
 use Rattle.measure.proofs.ready.Statement.{statement}
 use Rattle.measure.proofs.ready.Tie as tie
 
 statistics-requires : tie.Need-statistics-requires
-statistics-requires c κs = matrix-given (c .before .before .before .before .pre .held)
+statistics-requires c κs = given (c .before .before .before .before .pre .begins)
 
 reciprocals-requires : tie.Need-reciprocals-requires
-reciprocals-requires c κs = as-long (c .before .before .before .before .before .before .before .before .pre .held .room) (omega arith)
+reciprocals-requires c κs = as-long (c .before .before .before .before .before .before .before .before .pre .begins .room) (omega arith)
 
 copy-from-requires : tie.Need-copy-from-requires
 copy-from-requires c κs =
     let pre = c .before .before .before .before .before .before .before .before .before .before .before .before .pre in
-    (omega (arith, pre .held .room .laid .at-w, pre .held .room .room), omega (arith, pre .fits .vectors))
+    (omega (arith, pre .begins .room .laid .at-w, pre .begins .room .room), omega (arith, pre .vectors))
 
 copy-from-requires-2 : tie.Need-copy-from-requires-2
 copy-from-requires-2 c κs =
     let pre = c .before .before .before .before .before .before .before .before .before .before .before .before .before .before .before .before .pre in
-    (omega (arith, pre .held .room .laid .at-nu, pre .held .room .room), omega (arith, pre .fits .vectors, pre .held .all))
+    (omega (arith, pre .begins .room .laid .at-nu, pre .begins .room .room), omega (arith, pre .vectors, pre .begins .all))
 
 same-length : tie.Need-same-length
 same-length c = omega arith

@@ -10,7 +10,7 @@ returns c = tt
 
 augment-requires : tie.Need-augment-requires
 augment-requires c κs =
-    let h = c .before .before .before .before .before .pre in
+    let h = c .before .before .before .before .pre in
     (matrix-given h, h .stored (c .before .if1 .left) ∙ h .all)
 
 same-length : tie.Need-same-length

@@ -51,7 +51,7 @@ settled-requires c κs =
     let t = begun (u .before) in
     let g = from t .args in
     has-ended (g .n) (g .p) (g .x .now) (g .y .now) (g .st) (g .s .now) (g .w .now) (t .start-whole .result) (t .start-whole .ensures)
-    (ready (u .before) .fresh .given .1) (u .resumed .result) (enough (g .st .rounds) (g .first) (g .second)) (u .resumed .ensures)
+    (ready (u .before) .fresh .given .1) (u .resumed .result) (enough (g .st .«max_iter») (g .first) (g .second)) (u .resumed .ensures)
 
 enum-known-r : tie.Need-enum-known-r
 enum-known-r c = c .match .keys2
@@ -72,7 +72,7 @@ returns c =
     let t = begun (u .before) in
     let g = from t .args in
     settles (g .n) (g .p) (g .x .now) (g .y .now) (g .st) (g .s .now) (g .w .now) (t .start-whole .result) (t .start-whole .ensures)
-    (ready (u .before) .fresh .given .1) (u .resumed .result) (enough (g .st .rounds) (g .first) (g .second)) (u .resumed .ensures) (c .settled .ensures)
+    (ready (u .before) .fresh .given .1) (u .resumed .result) (enough (g .st .«max_iter») (g .first) (g .second)) (u .resumed .ensures) (c .settled .ensures)
 
 same-length-3 : tie.Need-same-length-3
 same-length-3 c = scratch (c .before .before .before .before .before .before)

@@ -50,7 +50,7 @@ returns-4 c =
     let b2 = b3 .before .before in
     let b1 = b2 .before .before in
     let st = b1 .before .before .args .st in
-    rw (alpha-passed b1, ratio-passed b2, tol-passed b3, lt-leb (st .rounds) 1000 (c .if4 .taken))
+    rw (alpha-passed b1, ratio-passed b2, tol-passed b3, lt-leb (st .«max_iter») 1000 (c .if4 .taken))
 
 panels-requires : tie.Need-panels-requires
 panels-requires c κs = tt
@@ -63,7 +63,7 @@ returns-5 c =
     let b2 = b3 .before .before in
     let b1 = b2 .before .before in
     let st = b1 .before .before .args .st in
-    rw (alpha-passed b1, ratio-passed b2, tol-passed b3, le-leb (st .rounds) 1000 (b4 .if4 .left)) (c .panels .ensures)
+    rw (alpha-passed b1, ratio-passed b2, tol-passed b3, le-leb (st .«max_iter») 1000 (b4 .if4 .left)) (c .panels .ensures)
 
 pub allowed-spec : {M : Type 1} → statement M
 allowed-spec = tie.close (tie.spec within-requires returns within-requires-2 returns-2 within-requires-3 returns-3 returns-4 panels-requires returns-5)

@@ -49,7 +49,7 @@ module _ (normalise : Bool) (t : Terms) (n p : ℕ) (m ce sc : List Float) where
       e ∙ ap (λ (k : ℕ). put (put s out (grid f n p)) (out + k) low) (sym (length-grid f n p))
       ∙ put-append s out (grid f n p) low ∙ ap (put s out) (grid-append f n p p)
 
-stored : (sh : Sizes) (l : Places) (normalise : Bool) (t : Terms) (m s : List Float) → Room sh l s → sh .rows ≡ sh .n + sh .p → (u : List Float)
+stored : (sh : Sizes) (l : Places) (normalise : Bool) (t : Terms) (m s : List Float) → Room sh l s → sh .stored ≡ sh .n + sh .p → (u : List Float)
     → u ≡ put s (l .design) (designOf normalise t (sh .n) (sh .p) m (part s (l .centre) (sh .p)) (part s (l .scale) (sh .p)))
     → Has sh (rest sh s) (designStore sh normalise t m (vars sh s)) u
 unfolding designStore designOf words
@@ -61,7 +61,7 @@ stored sh l normalise t m s r k u e =
 rows-requires : tie.Need-rows-requires
 rows-requires c κs =
     let at = c .before .before .before in
-    let e = words-of (at .args .sh .rows) (at .args .sh .n) (at .args .sh .p) (at .pre .1) in
+    let e = words-of (at .args .sh .stored) (at .args .sh .n) (at .args .sh .p) (at .pre .1) in
     omega arith
 
 mul-padding : tie.Need-mul-padding
@@ -73,7 +73,7 @@ add-padding c = omega arith
 padding-requires : tie.Need-padding-requires
 padding-requires c κs =
     let at = c .before .before .before .before .before .before .before in
-    let e = words-of (at .args .sh .rows) (at .args .sh .n) (at .args .sh .p) (at .pre .1) in
+    let e = words-of (at .args .sh .stored) (at .args .sh .n) (at .args .sh .p) (at .pre .1) in
     omega arith
 
 same-length : tie.Need-same-length

@@ -95,11 +95,11 @@ module _ {s₀ : List Float} {g p at rows : ℕ} {s : List Float} {i : ℕ} (w :
       }
 
 stored : (sh : Sizes) (l : Places) (s : List Float) → Room sh l s → (t u : List Float) → t ≡ put s (l .gram) (fillOf plus0 (sh .p * sh .p))
-    → Summed t (l .gram) (sh .p) (l .design) (sh .rows) u (sh .rows) → Has sh (rest sh s) (gramStore sh (vars sh s)) u
+    → Summed t (l .gram) (sh .p) (l .design) (sh .stored) u (sh .stored) → Has sh (rest sh s) (gramStore sh (vars sh s)) u
 unfolding gramStore gramOf words
 stored sh l s r t u e w =
     let p = sh .p in
-    let k = sh .rows in
+    let k = sh .stored in
     let kept : part t (l .design) (k * p) ≡ part s (l .design) (k * p) =
     rw e (part-put-below s (l .gram) (fillOf plus0 (p * p)) (l .design) (k * p)
     (rw length-fill (omega (arith, r .laid .at-gram, r .laid .at-design)))) in
@@ -157,7 +157,7 @@ returns c =
     let fill = at .before .before .before in
     let start = fill .before .before .before in
     let g = start .args in
-    let e : at .loop .i ≡ g .sh .rows = omega arith in
+    let e : at .loop .i ≡ g .sh .stored = omega arith in
     stored (g .sh) (g .l) (g .s .now) (start .pre) _ _ (fill .fill .ensures) (rw e at (at .loop .inv .1))
 
 pub gram-spec : {M : Type 1} → statement M

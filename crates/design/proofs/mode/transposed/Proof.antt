@@ -6,7 +6,7 @@ use Rattle.design.proofs.mode.transposed.Tie as tie
 
 columns-requires : tie.Need-columns-requires
 columns-requires c κs =
-    let g = c .before .before .before .before .before in
+    let g = c .before .before .before .before in
     downward _ _ _ _ (g .pre .0) _ _ (g .pre .1 .0) (g .pre .1 .1 .0) (g .pre .1 .1 .1)
 
 same-length : tie.Need-same-length
@@ -15,12 +15,12 @@ same-length c = search needs
 returns : tie.Need-returns
 returns c =
     let r = c .before .before in
-    let g = r .before .before .before .before .before .before in
+    let g = r .before .before .before .before .before in
     lazy-columns _ _ _ _ (g .pre .0) _ _ _ _ (r .before .before .if1 .taken) (r .columns .ensures)
 
 columns-requires-2 : tie.Need-columns-requires-2
 columns-requires-2 c κs =
-    let g = c .before .before .before .before .before in
+    let g = c .before .before .before .before in
     stored-downward _ _ _ _ (g .pre .0) _ _ (c .before .if1 .left) (g .pre .1 .0) (g .pre .1 .1 .0) (g .pre .1 .1 .1)
 
 same-length-2 : tie.Need-same-length-2
@@ -29,7 +29,7 @@ same-length-2 c = search needs
 returns-2 : tie.Need-returns-2
 returns-2 c =
     let r = c .before .before in
-    let g = r .before .before .before .before .before .before in
+    let g = r .before .before .before .before .before in
     stored-columns _ _ _ _ (g .pre .0) _ _ _ _ (r .before .before .if1 .left) (r .columns2 .ensures)
 
 pub transposed-spec : {M : Type 1} → statement M

@@ -16,11 +16,15 @@ use settings::terms_of;
 use stored::bits::all;
 use stored::bits::load;
 use stored::bits::same;
+use stored::memory::fill;
+use stored::memory::kept;
+use stored::memory::unspoilt;
 use stored::tally::Verdict;
 ghost use Prim.Native.Nat.{_*_, _≤_};
 ghost use lib.ListN.{length};
 
-// Which of the numbers are those stored: statistics and terms; targets; Gram, with the panels +0 afterwards; both products.
+// Which of the numbers are those stored: statistics and terms; targets; Gram, with the panels +0 afterwards; both products, with nothing written behind the
+// needed words.
 struct Seen(bool, bool, bool, bool);
 
 pub fn verdict(w: &[u64], x: &[f64], y: &[f64]) -> Verdict {
@@ -44,6 +48,7 @@ fn both(a: Seen, b: Seen) -> Seen {
     Seen(a.0 && b.0, a.1 && b.1, a.2 && b.2, a.3 && b.3)
 }
 
+// On a marked scratch that is eight words longer than it need be. The places in it are those of docs/LAYOUT.md.
 fn tried(w: &[u64], x: &[f64], y: &[f64], rows: usize, cols: usize) -> Seen
     requires { ⌜ 13 ≤ length (now w) ⌝ }
     requires { ⌜ rows ≤ 256 ⌝ }
@@ -55,9 +60,36 @@ fn tried(w: &[u64], x: &[f64], y: &[f64], rows: usize, cols: usize) -> Seen
         panel_cols: cols,
         ..st
     };
-    let at = panels(st.lazy, rows, cols);
-    let mut s = [1e300; 32768];
-    looked(w, st, at, x, y, &mut s)
+    let n = w[0] as usize;
+    let p = w[1] as usize;
+    if n > 4096 {
+        return none();
+    }
+    if p > 64 {
+        return none();
+    }
+    let gram = 40 * p + panels(st.lazy, rows, cols);
+    let end = gram + area(p, p) + 4 * (n + p) + stored_words(st.lazy, n + p, p);
+    if end > 32760 {
+        return none();
+    }
+    let mut s = [7.5; 32768];
+    looked(w, st, n, p, gram, x, y, &mut s[0..end + 8])
+}
+
+fn none() -> Seen {
+    Seen(false, false, false, false)
+}
+
+fn stored_words(lazy: bool, k: usize, p: usize) -> usize
+    requires { ⌜ k ≤ 4160 ⌝ }
+    requires { ⌜ p ≤ 64 ⌝ }
+    ensures { λ r. ⌜ r ≤ 266240 ⌝ }
+{
+    if lazy {
+        return 0;
+    }
+    area(k, p)
 }
 
 fn panels(lazy: bool, rows: usize, cols: usize) -> usize
@@ -80,32 +112,43 @@ fn area(n: usize, p: usize) -> usize
     n * p
 }
 
-// The places in the scratch are those of docs/LAYOUT.md.
-fn looked(w: &[u64], st: Settings, panels: usize, x: &[f64], y: &[f64], s: &mut [f64]) -> Seen
+fn looked(
+    w: &[u64],
+    st: Settings,
+    n: usize,
+    p: usize,
+    gram: usize,
+    x: &[f64],
+    y: &[f64],
+    s: &mut [f64],
+) -> Seen
     requires { ⌜ 13 ≤ length (now w) ⌝ }
-    requires { ⌜ panels ≤ 40000 ⌝ }
+    requires { ⌜ n ≤ 4096 ⌝ }
+    requires { ⌜ p ≤ 64 ⌝ }
+    requires { ⌜ gram ≤ 50000 ⌝ }
 {
-    let n = w[0] as usize;
-    let p = w[1] as usize;
-    if n > 4096 {
-        return Seen(false, false, false, false);
-    }
-    if p > 64 {
-        return Seen(false, false, false, false);
-    }
-    let k = n + p;
-    let g = area(p, p);
-    let gram = 40 * p + panels;
-    let v = 13 + 3 * p + 2 * k + g;
+    fill(s, 0, unspoilt());
     if !begun(st, n, p, x, y, s) {
-        return Seen(false, false, false, false);
+        return none();
     }
-    put(s, 0, w, v, p);
-    put(s, gram + g + 2 * k, w, v + p, k);
+    vectors(w, n, p, gram, s);
     if !multiplied(st, n, p, x, s) {
-        return Seen(false, false, false, false);
+        return none();
     }
     compared(w, st, n, p, gram, s)
+}
+
+// The vectors of the products, in the places of the weights and of nu.
+fn vectors(w: &[u64], n: usize, p: usize, gram: usize, s: &mut [f64])
+    requires { ⌜ n ≤ 4096 ⌝ }
+    requires { ⌜ p ≤ 64 ⌝ }
+    requires { ⌜ gram ≤ 50000 ⌝ }
+{
+    let k = n + p;
+    let g = area(p, p);
+    let v = 13 + 3 * p + 2 * k + g;
+    put(s, 0, w, v, p);
+    put(s, gram + g + 2 * k, w, v + p, k);
 }
 
 fn begun(st: Settings, n: usize, p: usize, x: &[f64], y: &[f64], s: &mut [f64]) -> bool {
@@ -146,8 +189,17 @@ fn compared(w: &[u64], st: Settings, n: usize, p: usize, gram: usize, s: &[f64])
         statistics,
         targets,
         holds(s, gram, w, b + k, g) && zeros(s, 40 * p, gram),
-        products,
+        products && behind(s),
     )
+}
+
+// The last eight words are as they were.
+fn behind(s: &[f64]) -> bool {
+    if s.len() < 8 {
+        return false;
+    }
+    let at = s.len() - 8;
+    kept(&s[at..], at, unspoilt())
 }
 
 fn terms(st: Settings, n: usize, w: &[u64], at: usize) -> bool

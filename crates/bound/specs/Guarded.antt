@@ -28,7 +28,7 @@ pub record Bounded (k : ℕ) (t : Float) : Type 0 where
   pub at-most : T (le t (power2 (17 + k)))
 
 -- a fit with p columns after k rounds were opened
-pub record Kept (p k : ℕ) (t : Float) (ws us : List Float) : Type 0 where
+pub record Guarded (p k : ℕ) (t : Float) (ws us : List Float) : Type 0 where
   pub columns : length ws ≡ p
   pub bounds : length us ≡ p
   pub inside : (i : ℕ) → i < p → Inside (ws ! i) (us ! i)

@@ -1,9 +1,9 @@
--- `fit_trials::designs::area` meets its contract. Assumes nothing.
+-- `replay_fits::designs::area` meets its contract. Assumes nothing.
 use Prim.Native.Nat.{ℕ, _*_, _≤_}
 use native.Mathlib.Nat.{mul-le-mul}
 use native.Mathlib.Omega.{arith}
-use Rattle.fit_trials.proofs.designs.area.Statement.{statement}
-use Rattle.fit_trials.proofs.designs.area.Tie as tie
+use Rattle.replay_fits.proofs.designs.area.Statement.{statement}
+use Rattle.replay_fits.proofs.designs.area.Tie as tie
 
 small : (n p : ℕ) → p ≤ 64 → n * p ≤ 64 * n
 small n p h =

@@ -1,4 +1,4 @@
--- `fit_trials::designs::multiplied` is safe: what `limits` has passed may be multiplied, and the products keep the scratch's length. Assumes nothing.
+-- `replay_fits::designs::multiplied` is safe: what `limits` has passed may be multiplied, and the products keep the scratch's length. Assumes nothing.
 use native.Mathlib.Omega.{arith}
 use borrow.Author.Needs.{needs}
 use lib.ListN.{length}
@@ -10,8 +10,8 @@ use Rattle.design.proofs.Lengths.{held-on}
 use Rattle.checks.specs.Checks.{Accepted}
 use Rattle.checks.proofs.Laws.{fine-of, accepted}
 use Rattle.elastic_net.proofs.Calls.{small, holds}
-use Rattle.fit_trials.proofs.designs.multiplied.Statement.{statement}
-use Rattle.fit_trials.proofs.designs.multiplied.Tie as tie
+use Rattle.replay_fits.proofs.designs.multiplied.Statement.{statement}
+use Rattle.replay_fits.proofs.designs.multiplied.Tie as tie
 
 abbrev from : tie.After-enum-told → tie.Start
 from c = c .before .before .before .before .before

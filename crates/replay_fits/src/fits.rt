@@ -1,20 +1,13 @@
-// Fits through start and resume, each in one call, in budgets of 1 and in random budgets, on marked memory. The words are rows, columns, the
-// settings, the scratch that is needed, and the answer (how it ended: 0 refused, 1 converged, 2 limit; refusal, place; the three counts; the
-// intercept's bits; weights); the numbers matrix and targets.
-use super::calls::resume_with;
-use super::calls::start_with;
-use elastic_net::Answer;
-use elastic_net::Resumed;
-use elastic_net::Started;
+// Fits through the calls over words, each in one call, in budgets of 1 and in random budgets, on marked memory. The words are rows, columns, the
+// settings, the scratch that is needed, the answer as a call gives it (kind, refusal, place, the three counts, the intercept's bits) and the weights;
+// the numbers matrix and targets.
+use c_api::xangoravit_resume;
+use c_api::xangoravit_start;
 use numbers::bits::bits_of;
-use records::Counts;
-use records::Paused;
-use refusal::Refusal;
-use refusal::Way;
-use refusal::number;
-use refusal::place;
 use stored::bits::all;
+use stored::bits::equal;
 use stored::bits::same;
+use stored::memory::MARK;
 use stored::memory::cleared;
 use stored::memory::fill;
 use stored::memory::kept;
@@ -65,20 +58,20 @@ fn weights_room() -> [f64; 64]
     [7.5; 64]
 }
 
+// A start that is refused leaves scratch and record as they were.
 fn started(w: &[u64], x: &[f64], y: &[f64], plan: u64, s: &mut [f64], weights: &mut [f64]) -> bool
     requires { ⌜ length (now w) ≡ 18 + length (now weights) ⌝ }
 {
-    match begun(w, x, y, s) {
-        Started::Ready(rec) => resumed(w, x, y, plan, s, weights, rec),
-        Started::Refused(r) => refused_as(r, w) && kept(s, 0, unspoilt()),
-    }
-}
-
-fn begun(w: &[u64], x: &[f64], y: &[f64], s: &mut [f64]) -> Started
-    requires { ⌜ 18 ≤ length (now w) ⌝ }
-{
     fill(s, 0, unspoilt());
-    start_with(w, x, y, s)
+    let mut rec = [MARK; 16];
+    let mut answer = [MARK; 7];
+    let n = w[0] as usize;
+    let p = w[1] as usize;
+    if xangoravit_start(n, p, x, y, &w[2..10], s, &mut rec, &mut answer) != 0 {
+        let marks = [MARK; 16];
+        return equal(&answer, &w[11..18]) && equal(&rec, &marks) && kept(s, 0, unspoilt());
+    }
+    resumed(w, x, y, plan, s, weights, &mut rec, &mut answer)
 }
 
 fn resumed(
@@ -88,29 +81,28 @@ fn resumed(
     plan: u64,
     s: &mut [f64],
     weights: &mut [f64],
-    rec: Paused,
+    rec: &mut [u64],
+    answer: &mut [u64],
 ) -> bool
     requires { ⌜ length (now w) ≡ 18 + length (now weights) ⌝ }
+    requires { ⌜ length (now rec) ≡ 16 ⌝ }
+    requires { ⌜ length (now answer) ≡ 7 ⌝ }
 {
-    let mut cur = rec;
+    let n = w[0] as usize;
+    let p = w[1] as usize;
     let mut seed = w[16];
     for i in 0..calls(plan) {
-        let r = resume_with(w, x, y, cur, s, weights, budget(w, plan, seed));
-        if !pending(r) {
-            return agrees(r, w, s, weights);
+        let b = budget(w, plan, seed);
+        let r = xangoravit_resume(n, p, x, y, &w[2..10], rec, s, weights, b, answer);
+        if answer[0] != 0 {
+            return agrees(w, r, s, weights, rec, answer);
         }
         if !untouched(weights) {
             return false;
         }
         seed = next_seed(seed);
-        cur = r.paused;
     }
     false
-}
-
-fn pending(r: Resumed) -> bool {
-    let a = r.answer;
-    if let Answer::Pending = a { true } else { false }
 }
 
 fn untouched(weights: &[f64]) -> bool {
@@ -138,51 +130,14 @@ fn next_seed(seed: u64) -> u64 {
     seed % 2147483647 * 48271 % 2147483647 + 1
 }
 
-// The needed words of the scratch are +0, and those behind them as they were.
-fn agrees(r: Resumed, w: &[u64], s: &[f64], weights: &[f64]) -> bool
+// The call returned the refusal's number, or 0. The record has ended, with the answer's counts and fixed values; the needed words of the scratch are +0, and those behind them as they were.
+fn agrees(w: &[u64], r: u64, s: &[f64], weights: &[f64], rec: &[u64], answer: &[u64]) -> bool
     requires { ⌜ length (now w) ≡ 18 + length (now weights) ⌝ }
 {
-    ended_as(r, w) && same(weights, &w[18..]) && cleared(s, w[10] as usize, 0, unspoilt())
-}
-
-// The counts stand in the record too.
-fn ended_as(r: Resumed, w: &[u64]) -> bool
-    requires { ⌜ 18 ≤ length (now w) ⌝ }
-{
-    let a = r.answer;
-    let rec = r.paused;
-    let c = rec.counts;
-    counted(c, w) && answered(a, w)
-}
-
-fn answered(a: Answer, w: &[u64]) -> bool
-    requires { ⌜ 18 ≤ length (now w) ⌝ }
-{
-    match a {
-        Answer::Pending => false,
-        Answer::Done(b, way, c) => ended_by(way) == w[11] && bits_of(b) == w[17] && counted(c, w),
-        Answer::Refused(r) => refused_as(r, w),
-    }
-}
-
-fn counted(c: Counts, w: &[u64]) -> bool
-    requires { ⌜ 18 ≤ length (now w) ⌝ }
-{
-    let a = c.rounds;
-    let b = c.solver;
-    let t = c.trials;
-    a.0 == w[14] && b.0 == w[15] && t.0 == w[16]
-}
-
-fn refused_as(r: Refusal, w: &[u64]) -> bool
-    requires { ⌜ 18 ≤ length (now w) ⌝ }
-{
-    w[11] == 0 && number(r) == w[12] && place(r) as u64 == w[13]
-}
-
-fn ended_by(way: Way) -> u64 {
-    match way {
-        Way::Converged => 1,
-        Way::Limit => 2,
-    }
+    let ended = [3, 0, 0, w[14], w[15], w[16], 0, 0, 0, 0, 0, 0, 0, 0, 0, 0];
+    r == w[12]
+        && equal(answer, &w[11..18])
+        && equal(rec, &ended)
+        && same(weights, &w[18..])
+        && cleared(s, w[10] as usize, 0, unspoilt())
 }
