@@ -1,5 +1,5 @@
 -- What the parts in nested loops answer and leave is smartcore's: coefficients, intercept and counts, or its refusal. Assumes nothing.
-use mathlib.Core.Path.{_≡_, refl, ap, _∙_}
+use mathlib.Core.Path.{_≡_, ap, _∙_}
 use mathlib.Core.Bool.{Bool, true, false, cond}
 use mathlib.Core.List.{List}
 use Prim.Native.Nat.{ℕ}
