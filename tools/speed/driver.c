@@ -1,6 +1,7 @@
-// driver PIECE N P COUNT CALLS: our side of a comparison. The numbers, the sum and the line that it prints are those of the oracle's `measure` (oracle/rust/measure.rs).
+// driver PIECE N P COUNT CALLS [result]: our side of a comparison. The numbers, the sum and the line that it prints are those of the oracle's `measure` (oracle/rust/measure.rs).
 // It makes CALLS calls of COUNT repetitions each, clears the scratch before each call, and prints a sum over the last result's bits and the nanoseconds of the best call;
-// of a fit also rounds, solver rounds and trials. fit-eager:M and fit-lazy:M are fits of M rounds.
+// of a fit also rounds, solver rounds and trials. fit-eager:M and fit-lazy:M are fits of M rounds. With the word `result` the last result follows, a number a line: of a
+// fit the weights, then the intercept.
 #include <float.h>
 #include <inttypes.h>
 #include <stdint.h>
@@ -219,7 +220,8 @@ static uint64_t sum_of(const double *values, size_t count) {
 }
 
 int main(int argc, char **argv) {
-    if (argc != 6) fail("usage: driver PIECE N P COUNT CALLS");
+    int showing = argc == 7 && !strcmp(argv[6], "result");
+    if (argc != 6 + showing) fail("usage: driver PIECE N P COUNT CALLS [result]");
     const struct piece *of = NULL;
     const char *name = strtok(argv[1], ":"), *limit = strtok(NULL, ":");
     for (size_t i = 0; i < sizeof pieces / sizeof *pieces; i++)
@@ -244,5 +246,6 @@ int main(int argc, char **argv) {
     printf("%s %zu %zu %zu %016" PRIx64 " %" PRIu64, of->name, n, p, count, sum_of(s + at, length(of, n, p)), best);
     for (size_t i = XANGORAVIT_COUNT_ROUNDS; of->side == FIT && i < XANGORAVIT_LAST; i++) printf(" %" PRIu64, answer[i]);
     printf("\n");
+    for (size_t i = 0; showing && i < length(of, n, p); i++) printf("%.17g\n", s[at + i]);
     return 0;
 }

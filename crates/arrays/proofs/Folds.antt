@@ -1,6 +1,7 @@
--- A fold of no number, of one more, and of the same numbers. Assumes nothing.
-use mathlib.Core.Path.{_≡_, refl, sym}
+-- A fold of no number, of one more, of the same numbers, and one taken up where another ended. Assumes nothing.
+use mathlib.Core.Path.{_≡_, refl, sym, ap}
 use Prim.Native.Nat.{ℕ, zero, suc, _+_, _<_}
+use native.Mathlib.Nat.{add-zero, add-suc}
 use native.Mathlib.Numerals.{add-one}
 use native.Mathlib.Omega.{arith}
 use lib.Ieee.{Float}
@@ -25,3 +26,9 @@ fold-ext g start f h zero e = refl
 fold-ext g start f h (suc n) e =
     let q : f n ≡ h n = e n (omega arith) in
     rw (fold-ext g start f h n (λ i l. e i (omega arith)), q)
+
+-- a fold taken up where another ended
+pub fold-on : (g : Float → Float → Float) (start : Float) (f : ℕ → Float) (m n : ℕ) → foldTo g (foldTo g start f m) (λ i. f (m + i)) n ≡ foldTo g start f (m + n)
+unfolding foldTo
+fold-on g start f m zero = ap (foldTo g start f) (sym (add-zero m))
+fold-on g start f m (suc n) = rw (fold-on g start f m n) (ap (foldTo g start f) (sym (add-suc m n)))

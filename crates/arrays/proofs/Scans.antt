@@ -9,8 +9,9 @@ use lib.ListN.{length, getD, drop, drop-of-length-le}
 use lib.Seq.{drop-cons}
 use lib.Ieee.{Float, nan, inf, fin, lt}
 use lib.Ieee.Scale.{finite}
+use Rattle.arrays.specs.declared.scan.Found.{Found}
 use Rattle.arrays.specs.declared.scan.Found.the-variants.{Clean, At}
-use Rattle.arrays.specs.Scan.{firstInfinite}
+use Rattle.arrays.specs.Scan.{firstInfinite, isClean}
 
 -- the code's `!`
 pub denied : (b : Bool) → not b ≡ true → b ≡ false
@@ -56,3 +57,37 @@ scan-goes-on s i h e =
 pub scan-ends : (s : List Float) (i : ℕ) → length s ≤ i → firstInfinite i (drop i s) ≡ Clean
 unfolding firstInfinite
 scan-ends s i h = rw (drop-of-length-le s h)
+
+-- ---- a loop that goes through all of them
+
+-- while all before i is good, what is left gives the whole answer; else that is not clean
+pub record Scanned (s : List Float) (good : Bool) (i : ℕ) : Type 0 where
+  pub so-far : good ≡ true → firstInfinite i (drop i s) ≡ firstInfinite 0 s
+  pub found : good ≡ false → isClean (firstInfinite 0 s) ≡ false
+
+pub scanned-none : (s : List Float) → Scanned s true 0
+scanned-none s = record { so-far = λ _. refl; found = λ h. absurd (subst T h tt) }
+
+module _ {s : List Float} {good : Bool} {i : ℕ} (c : Scanned s good i) where
+  pub scanned-good : i < length s → finite (getD s i nan) ≡ true → Scanned s good (i + 1)
+  scanned-good h e = record { so-far = λ g. sym (scan-goes-on s i h e) ∙ c .so-far g; found = c .found }
+
+  pub scanned-bad : i < length s → finite (getD s i nan) ≡ false → Scanned s false (i + 1)
+  scanned-bad h e = record {
+    so-far = λ g. absurd (subst T (sym g) tt);
+    found = λ _. go good refl;
+  } where
+    go : (b : Bool) → good ≡ b → isClean (firstInfinite 0 s) ≡ false
+    go true g = ap isClean (sym (c .so-far g) ∙ scan-stops s i h e)
+    go false g = c .found g
+
+  pub scanned-all : length s ≤ i → good ≡ isClean (firstInfinite 0 s)
+  scanned-all h = go good refl where
+    go : (b : Bool) → good ≡ b → good ≡ isClean (firstInfinite 0 s)
+    go true g = g ∙ ap isClean (sym (scan-ends s i h) ∙ c .so-far g)
+    go false g = g ∙ sym (c .found g)
+
+-- what is clean
+pub clean-is : (f : Found) → isClean f ≡ true → f ≡ Clean
+clean-is Clean h = refl
+clean-is (At i) h = absurd (subst T (sym h) tt)

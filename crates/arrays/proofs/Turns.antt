@@ -1,6 +1,6 @@
 -- Loops over the elements of vectors: one that writes f 0, f 1, .. one after another, with what holds at its head, one turn and its end; and the turn of one
 -- that sums products. Assumes nothing.
-use mathlib.Core.Path.{_≡_, refl}
+use mathlib.Core.Path.{_≡_, refl, sym, ap, _∙_}
 use mathlib.Core.Logic.{_⊎_, inl, inr, ⊎-elim}
 use mathlib.Core.List.{List}
 use Prim.Native.Nat.{ℕ, _+_, _≤_, _<_}
@@ -25,8 +25,11 @@ pub record Made (s₀ : List Float) (out n : ℕ) (f : ℕ → Float) (s : List 
 pub made-none : (s₀ : List Float) (out n : ℕ) (f : ℕ → Float) → Made s₀ out n f s₀ 0
 made-none s₀ out n f = record { within = omega arith; long = refl; is = put-tab-none s₀ out f }
 
+pub made-first : (s₀ : List Float) (out n : ℕ) (f : ℕ → Float) (s : List Float) (i : ℕ) → i ≤ n → s ≡ put s₀ out (tab f i) → Made s₀ out n f s i
+made-first s₀ out n f s i h e = record { within = h; long = rw (e, length-put); is = e }
+
 pub made-of : (s₀ : List Float) (out n : ℕ) (f : ℕ → Float) (s : List Float) → s ≡ put s₀ out (tab f n) → Made s₀ out n f s n
-made-of s₀ out n f s e = record { within = omega arith; long = rw (e, length-put); is = e }
+made-of s₀ out n f s e = made-first s₀ out n f s n (omega arith) e
 
 clear-of : (out a n : ℕ) → Clear out a n → (a + n ≤ out) ⊎ (out ≤ a)
 clear-of out a n h = go (decLt out (a + n)) (decLt a (out + n)) where
@@ -60,6 +63,12 @@ module _ {s₀ : List Float} {out n : ℕ} {f : ℕ → Float} {s : List Float} 
   made-again g t e =
       let l : length (tab f i) ≤ length (tab g n) = omega (arith, length-tab f i, length-tab g n) in
       made-of s₀ out n g t (rw (e, m .is) (put-put-same s₀ out (tab f i) (tab g n) l))
+
+  -- over itself, for a loop that goes on
+  pub made-self : Made s out n f s i
+  made-self =
+      let e : put s out (tab f i) ≡ s = ap (λ (r : List Float). put r out (tab f i)) (m .is) ∙ put-put-same s₀ out (tab f i) (tab f i) (omega arith) ∙ sym (m .is) in
+      record { within = m .within; long = refl; is = sym e }
 
 -- one turn of a loop that makes each element of two, and of one
 pub zip-more : (g : Float → Float → Float) {s₀ : List Float} {out : ℕ} (a b : ℕ) {n : ℕ} {s : List Float} {i : ℕ}

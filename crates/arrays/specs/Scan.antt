@@ -1,5 +1,5 @@
 -- Where the first value that is not finite stands, counted from i. Definitions only.
-use mathlib.Core.Bool.{true, false}
+use mathlib.Core.Bool.{Bool, true, false}
 use mathlib.Core.List.{List, [], _∷_}
 use Prim.Native.Nat.{ℕ, _+_}
 use lib.Ieee.{Float}
@@ -13,3 +13,7 @@ firstInfinite i (x ∷ xs) = elim (finite x) [
   | true ↦ firstInfinite (i + 1) xs
   | false ↦ At i
 ]
+
+abbrev pub isClean : Found → Bool
+isClean Clean = true
+isClean (At i) = false

@@ -34,6 +34,39 @@ pub fn dot(x: &[f64], a: usize, y: &[f64], b: usize, n: usize) -> f64
     t
 }
 
+// Three dots: of a with itself, of b with itself, and of b with c.
+pub struct Dots {
+    pub aa: f64,
+    pub bb: f64,
+    pub bc: f64,
+}
+
+// Side by side, so that none waits for another; each as `dot` has it.
+pub fn three_dots(x: &[f64], a: usize, b: usize, c: usize, n: usize) -> Dots
+    requires { ⌜ a + n ≤ length (now x) ⌝ }
+    requires { ⌜ b + n ≤ length (now x) ⌝ }
+    requires { ⌜ c + n ≤ length (now x) ⌝ }
+    ensures { λ r. ⌜ r .aa ≡ dotOf n (part (now (x .entry)) a n) (part (now (x .entry)) a n) ⌝ }
+    ensures { λ r. ⌜ r .bb ≡ dotOf n (part (now (x .entry)) b n) (part (now (x .entry)) b n) ⌝ }
+    ensures { λ r. ⌜ r .bc ≡ dotOf n (part (now (x .entry)) b n) (part (now (x .entry)) c n) ⌝ }
+{
+    let mut aa = -0.0;
+    let mut bb = -0.0;
+    let mut bc = -0.0;
+    for i in 0..n {
+        let u = x[a + i];
+        let v = x[b + i];
+        aa = aa + u * u;
+        bb = bb + v * v;
+        bc = bc + v * x[c + i];
+    }
+    Dots {
+        aa: aa,
+        bb: bb,
+        bc: bc,
+    }
+}
+
 // As `dot`, but from +0: some lines of the Rust begin with the one and some with the other.
 pub fn product(x: &[f64], a: usize, y: &[f64], b: usize, n: usize) -> f64
     requires { ⌜ a + n ≤ length (now x) ⌝ }

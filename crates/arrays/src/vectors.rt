@@ -77,6 +77,17 @@ pub fn add_scaled(s: &mut [f64], out: usize, a: usize, x: f64, b: usize, n: usiz
     }
 }
 
+// The n elements at `out` plus x times n of another slice.
+pub fn add_scaled_from(s: &mut [f64], out: usize, x: f64, t: &[f64], a: usize, n: usize)
+    requires { ⌜ out + n ≤ length (now s) ⌝ }
+    requires { ⌜ a + n ≤ length (now t) ⌝ }
+    ensures { λ _. ⌜ now (s .exit) ≡ put (now (s .entry)) out (zipOf (λ (v w : Float). v ⊕ x ⊗ w) n (part (now (s .entry)) out n) (part (now (t .entry)) a n)) ⌝ }
+{
+    for i in 0..n {
+        s[out + i] = s[out + i] + x * t[a + i];
+    }
+}
+
 // x times a, plus b.
 pub fn scale_add(s: &mut [f64], out: usize, x: f64, a: usize, b: usize, n: usize)
     requires { ⌜ Two (now s) out a b n ⌝ }

@@ -40,7 +40,7 @@ fn prepare(m: &[f64], sh: Sizes, normalise: bool, tm: Terms, s: &mut [f64], l: P
         return;
     }
     augment(m, sh, normalise, tm, s, l);
-    design::eager::gram(sh, s, l);
+    eager_gram::gram(sh, s, l);
 }
 
 // Writes every needed word of the scratch, whatever it held. The sweep at the end changes no number: it leaves each NaN in its one pattern.

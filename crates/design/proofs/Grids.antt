@@ -4,12 +4,11 @@ use mathlib.Core.List.{List}
 use Prim.Native.Nat.{ℕ, _+_, _*_, _≤_, _<_}
 use native.Mathlib.Omega.{arith}
 use lib.ListN.{length}
-use lib.Ieee.{Float, nan}
+use lib.Ieee.{Float}
 use Rattle.arrays.specs.Part.{part, put, tab}
-use Rattle.arrays.proofs.Part.{length-put, part-put-above, getD-put-below}
-use Rattle.arrays.specs.Sums.{_!_}
+use Rattle.arrays.proofs.Part.{length-put, part-put-above}
 use Rattle.matrices.specs.Grid.{grid}
-use Rattle.matrices.proofs.Grid.{length-grid, put-grid-none, put-grid-more}
+use Rattle.matrices.proofs.Grid.{put-grid-none, put-grid-more}
 
 -- the first i of n rows of `cols` entries from `out` are written, and all else is as it was in s₀
 pub record Written (s₀ : List Float) (out n cols : ℕ) (f : ℕ → ℕ → Float) (s : List Float) (i : ℕ) : Type 0 where
@@ -35,7 +34,3 @@ module _ {s₀ : List Float} {out n cols : ℕ} {f : ℕ → ℕ → Float} {s :
 
   pub part-below : (b k : ℕ) → b + k ≤ out → part s b k ≡ part s₀ b k
   part-below b k h = rw (w .is) (part-put-above s₀ out (grid f i cols) b k h)
-
-  -- what lies after the rows that are written
-  pub above : (q : ℕ) → out + i * cols ≤ q → s ! q ≡ s₀ ! q
-  above q h = rw (w .is) (getD-put-below s₀ out (grid f i cols) q nan (rw length-grid h))

@@ -11,8 +11,18 @@ use Rattle.settings.specs.declared.Terms.{Terms}
 use Rattle.layout.specs.declared.Sizes.{Sizes}
 use Rattle.layout.specs.declared.Places.{Places}
 use Rattle.layout.specs.Slots.{vars}
+use Rattle.layout.specs.Slots.{Slot.DESIGN}
 use Rattle.lazy_normalization.specs.Lazy.{lazyRows, lazyColumns, Reads}
 use Rattle.design.specs.Mode.{matvecOf, transposedOf, Held}
+
+-- a product of the transposed stored design
+pub stored-product : {sh : Sizes} {l : Places} {m s : List Float} (h : Held sh l m s) (v : ℕ) (t : Terms) → sh .lazy ≡ false
+    → columnsOf (part s (l .design) (sh .stored * sh .p)) (sh .stored) (sh .p) (part s v (sh .stored)) ≡ transposedOf sh t m (vars sh s) (part s v (sh .k))
+unfolding transposedOf
+stored-product {sh} {s = s} h v t z =
+    rw z
+    (ap (λ (a : ℕ). columnsOf (part s a (sh .stored * sh .p)) (sh .stored) (sh .p) (part s v (sh .stored))) (h .room .laid .at-design)
+    ∙ ap (λ (i : ℕ). columnsOf (vars sh s DESIGN) (sh .stored) (sh .p) (part s v i)) (h .stored z))
 
 module _ (sh : Sizes) (l : Places) (m s : List Float) (h : Held sh l m s) (v out : ℕ) where
   -- from below the columns' numbers to above the Gram
@@ -79,8 +89,4 @@ module _ (sh : Sizes) (l : Places) (m s : List Float) (h : Held sh l m s) (v out
     pub stored-columns : sh .lazy ≡ false
         → s′ ≡ put s out (columnsOf (part s (l .design) (sh .stored * sh .p)) (sh .stored) (sh .p) (part s v (sh .stored)))
         → s′ ≡ put s out (transposedOf sh t m (vars sh s) (part s v (sh .k)))
-    unfolding transposedOf
-    stored-columns z e =
-        rw z
-        (rw (h .room .laid .at-design) at
-        (e ∙ ap (λ (i : ℕ). put s out (columnsOf (part s (l .design) (sh .stored * sh .p)) (sh .stored) (sh .p) (part s v i))) (h .stored z)))
+    stored-columns z e = e ∙ ap (put s out) (stored-product h v t z)

@@ -5,7 +5,7 @@ use Prim.Native.Nat.{ℕ, _+_, _*_, _≤_}
 use lib.Dec.{eqb}
 use lib.ListN.{length}
 use lib.Ieee.{Float}
-use Rattle.numbers.specs.Ops.{_⊕_, _⊖_, _⊗_, _⊘_}
+use Rattle.numbers.specs.Ops.{_⊖_, _⊗_, _⊘_}
 use Rattle.arrays.specs.Sums.{_!_, plus0}
 
 -- gamma times an element, normalised or raw
@@ -18,10 +18,6 @@ rowOf normalise gamma m at ce sc j = scaledOf normalise gamma (m ! (at + j)) (ce
 
 abbrev pub diagonalAt : Float → ℕ → ℕ → Float
 diagonalAt x r j = cond (eqb r j) x plus0
-
--- the sums at g, with the products of the row at `at` added
-abbrev pub addedAt : List Float → ℕ → ℕ → ℕ → ℕ → ℕ → Float
-addedAt s g p at r c = s ! (g + r * p + c) ⊕ s ! (at + r) ⊗ s ! (at + c)
 
 -- a row of m, with centres and scales before the place that is written
 pub record Row (m : List Float) (at p : ℕ) (s : List Float) (ce sc out : ℕ) : Type 0 where
@@ -36,8 +32,3 @@ pub record Matrix (m : List Float) (n p : ℕ) (s : List Float) (ce sc out : ℕ
   pub centres : ce + p ≤ out
   pub scales : sc + p ≤ out
   pub room : out + n * p ≤ length s
-
--- a Gram, and a row above it
-pub record Added (s : List Float) (g p at : ℕ) : Type 0 where
-  pub above : g + p * p ≤ at
-  pub room : at + p ≤ length s

@@ -12,7 +12,7 @@ use Rattle.arrays.specs.Sums.{plus0, meanOf}
 use Rattle.arrays.specs.Vectors.{mapOf, fillOf}
 use Rattle.arrays.specs.declared.scan.Found.{Found}
 use Rattle.arrays.specs.declared.scan.Found.the-variants.{Clean, At}
-use Rattle.matrices.specs.Stats.{columnMeanOf, deviationOf}
+use Rattle.column_moments.specs.Stats.{columnMeanOf, deviationOf}
 use Rattle.layout.specs.declared.Sizes.{Sizes}
 use Rattle.layout.specs.declared.Places.{Places}
 use Rattle.layout.specs.Slots.{Store, Room, _⟨_≔_⟩}

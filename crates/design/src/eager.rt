@@ -1,5 +1,4 @@
-// The stored design and its Gram.
-use arrays::vectors::add_scaled;
+// The stored design.
 use arrays::vectors::fill;
 use layout::Places;
 use layout::Sizes;
@@ -10,10 +9,10 @@ ghost use lib.ListN.{length};
 ghost use mathlib.Core.Bool.{true, false};
 ghost use Rattle.arrays.specs.Part.{part, put, tab};
 ghost use Rattle.matrices.specs.Grid.{grid};
-ghost use Rattle.layout.specs.Slots.{Room, Makes};
+ghost use Rattle.layout.specs.Slots.{Makes};
 ghost use Rattle.design.specs.Statistics.{Given};
-ghost use Rattle.design.specs.Eager.{designStore, gramStore};
-ghost use Rattle.design.specs.Rows.{rowOf, diagonalAt, addedAt, Row, Matrix, Added};
+ghost use Rattle.design.specs.Eager.{designStore};
+ghost use Rattle.design.specs.Rows.{rowOf, diagonalAt, Row, Matrix};
 
 // Writes the stored design: gamma times the matrix, normalised where that is asked, and p rows of padding below. Not for a lazy fit, whose slot is empty.
 pub fn augment(m: &[f64], sh: Sizes, normalise: bool, t: Terms, s: &mut [f64], l: Places)
@@ -113,32 +112,5 @@ fn padding(s: &mut [f64], out: usize, p: usize, x: f64)
         let at = out + r * p;
         fill(s, at, p, 0.0);
         s[at + r] = x;
-    }
-}
-
-// The Gram of the stored design: each row's products are added to all entries at once, so that memory is read in its order.
-pub fn gram(sh: Sizes, s: &mut [f64], l: Places)
-    requires { ⌜ Room sh l (now s) ⌝ }
-    ensures { λ _. ⌜ Makes sh (gramStore sh) (now (s .entry)) (now (s .exit)) ⌝ }
-{
-    let g = l.gram;
-    let p = sh.p;
-    fill(s, g, p * p, 0.0);
-    let mut at = l.design;
-    for i in 0..sh.stored {
-        add_products(s, g, p, at);
-        at += p;
-    }
-}
-
-// The products of the row at `at`, added to the Gram at g.
-fn add_products(s: &mut [f64], g: usize, p: usize, at: usize)
-    requires { ⌜ Added (now s) g p at ⌝ }
-    ensures { λ _. ⌜ now (s .exit) ≡ put (now (s .entry)) g (grid (addedAt (now (s .entry)) g p at) p p) ⌝ }
-{
-    for r in 0..p {
-        let x = s[at + r];
-        let out = g + r * p;
-        add_scaled(s, out, out, x, at, p);
     }
 }

@@ -1,4 +1,4 @@
-// What a start makes of matrix and targets: statistics, the stored design and its Gram, the centred targets.
+// What a start makes of matrix and targets: statistics, the stored design, the centred targets; and products with the design, by mode.
 pub mod eager;
 pub mod mode;
 pub mod statistics;

@@ -3,7 +3,9 @@ use layout::Places;
 use layout::Sizes;
 use settings::Terms;
 ghost use mathlib.Core.Path.{_≡_};
+ghost use mathlib.Core.Bool.{false};
 ghost use Prim.Native.Nat.{_+_, _≤_};
+ghost use lib.ListN.{length};
 ghost use Rattle.arrays.specs.Part.{part, put};
 ghost use Rattle.layout.specs.Slots.{vars};
 ghost use Rattle.design.specs.Mode.{matvecOf, transposedOf, Held};
@@ -18,7 +20,7 @@ pub fn matvec(m: &[f64], sh: Sizes, t: Terms, s: &mut [f64], l: Places, v: usize
     ensures { λ _. ⌜ now (s .exit) ≡ put (now (s .entry)) out (matvecOf sh t (now (m .entry)) (vars sh (now (s .entry))) (part (now (s .entry)) v (sh .p))) ⌝ }
 {
     if sh.lazy {
-        lazy_normalization::rows(m, sh.n, sh.p, t, s, l, v, out);
+        lazy_rows::rows(m, sh.n, sh.p, t, s, l, v, out);
         return;
     }
     matrices::products::rows(s, l.design, sh.stored, sh.p, v, out);
@@ -34,8 +36,35 @@ pub fn transposed(m: &[f64], sh: Sizes, t: Terms, s: &mut [f64], l: Places, v: u
         ≡ put (now (s .entry)) out (transposedOf sh t (now (m .entry)) (vars sh (now (s .entry))) (part (now (s .entry)) v (sh .k))) ⌝ }
 {
     if sh.lazy {
-        lazy_normalization::columns(m, sh.n, sh.p, t, s, l, v, out);
+        lazy_columns::columns(m, sh.n, sh.p, t, s, l, v, out);
         return;
     }
-    matrices::products::columns(s, l.design, sh.stored, sh.p, v, out);
+    matrix_columns::columns(s, l.design, sh.stored, sh.p, v, out);
+}
+
+// Two such products of a stored design in one pass over it: of the vector at v, and of the one at w into the first of t.
+pub fn transposed_both(
+    m: &[f64],
+    sh: Sizes,
+    tm: Terms,
+    s: &mut [f64],
+    l: Places,
+    v: usize,
+    out: usize,
+    w: usize,
+    t: &mut [f64],
+)
+    requires { ⌜ Held sh l (now m) (now s) ⌝ }
+    requires { ⌜ sh .lazy ≡ false ⌝ }
+    requires { ⌜ out + sh .p ≤ l .centre ⌝ }
+    requires { ⌜ l .y ≤ v ⌝ }
+    requires { ⌜ v + sh .k ≤ l .design ⌝ }
+    requires { ⌜ l .y ≤ w ⌝ }
+    requires { ⌜ w + sh .k ≤ l .design ⌝ }
+    requires { ⌜ sh .p ≤ length (now t) ⌝ }
+    ensures { λ _. ⌜ now (s .exit)
+        ≡ put (now (s .entry)) out (transposedOf sh tm (now (m .entry)) (vars sh (now (s .entry))) (part (now (s .entry)) v (sh .k))) ⌝ }
+    ensures { λ _. ⌜ part (now (t .exit)) 0 (sh .p) ≡ transposedOf sh tm (now (m .entry)) (vars sh (now (s .entry))) (part (now (s .entry)) w (sh .k)) ⌝ }
+{
+    matrix_columns::columns_both(s, l.design, sh.stored, sh.p, v, out, w, t);
 }

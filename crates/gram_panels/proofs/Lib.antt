@@ -1,2 +1,3 @@
 pub mod Mats
 pub mod Sums
+pub mod Square

@@ -1,23 +1,17 @@
 -- The sums of an entry row, which are carried on from row to row of the panels. Assumes nothing.
 use mathlib.Core.Path.{_≡_, sym, ap, _∙_}
 use mathlib.Core.List.{List}
-use Prim.Native.Nat.{ℕ, zero, suc, _+_, _*_, _≤_, _<_}
-use native.Mathlib.Nat.{add-zero, add-suc, add-mul}
+use Prim.Native.Nat.{ℕ, _+_, _*_, _≤_, _<_}
+use native.Mathlib.Nat.{add-mul}
 use native.Mathlib.Omega.{arith}
 use lib.Ieee.{Float, nan}
 use Rattle.arrays.specs.Part.{put, tab}
 use Rattle.arrays.proofs.Part.{tab-ext, getD-put-above}
-use Rattle.arrays.specs.Sums.{_!_, foldTo}
-use Rattle.arrays.proofs.Folds.{fold-none, fold-ext}
+use Rattle.arrays.specs.Sums.{_!_}
+use Rattle.arrays.proofs.Folds.{fold-none, fold-ext, fold-on}
 use Rattle.arrays.proofs.Turns.{Made, made-of, made-again}
 use Rattle.gram_panels.specs.Panels.{sumAt, EntryRow}
 use Rattle.gram_panels.proofs.Mats.{row-le, getD-put-tab, put-self}
-
--- a fold taken up where another ended
-pub fold-on : (g : Float → Float → Float) (start : Float) (f : ℕ → Float) (m n : ℕ) → foldTo g (foldTo g start f m) (λ i. f (m + i)) n ≡ foldTo g start f (m + n)
-unfolding foldTo
-fold-on g start f m zero = ap (foldTo g start f) (sym (add-zero m))
-fold-on g start f m (suc n) = rw (fold-on g start f m n) (ap (foldTo g start f) (sym (add-suc m n)))
 
 -- ---- the sums of an entry row after i rows of its panels, which lie before it
 

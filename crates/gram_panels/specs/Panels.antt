@@ -1,10 +1,10 @@
 -- Inner definitions: no promise names them.
--- What filling a panel and adding the products of two panels make of the scratch, from the innermost loop outwards, and what each asks.
+-- What filling a panel, adding the products of two panels and the mirror make of the scratch, from the innermost loop outwards, and what each asks.
 use mathlib.Core.List.{List}
 use Prim.Native.Nat.{ℕ, zero, suc, _+_, _-_, _*_, _≤_, _<_}
 use lib.ListN.{length}
 use lib.Ieee.{Float}
-use Rattle.numbers.specs.Ops.{_⊕_, _⊖_, _⊗_, _⊘_}
+use Rattle.numbers.specs.Ops.{_⊖_, _⊘_}
 use Rattle.arrays.specs.Part.{put, tab}
 use Rattle.arrays.specs.Sums.{_!_, products}
 
@@ -60,18 +60,6 @@ pub record Fill (m : List Float) (p row nr col nc : ℕ) (s : List Float) (ce sc
 abbrev pub wid : ℕ → ℕ → ℕ → ℕ
 wid nk d a = least nk (d + a + 1)
 
--- sum b of those from `at`, and the products of four numbers and the elements b from four places, added in turn
-abbrev pub fourAt : List Float → ℕ → Float → Float → Float → Float → ℕ → ℕ → ℕ → ℕ → ℕ → Float
-fourAt s at v0 v1 v2 v3 r0 r1 r2 r3 b = s ! (at + b) ⊕ v0 ⊗ s ! (r0 + b) ⊕ v1 ⊗ s ! (r1 + b) ⊕ v2 ⊗ s ! (r2 + b) ⊕ v3 ⊗ s ! (r3 + b)
-
--- the elements lie before the sums
-pub record AddFour (s : List Float) (at w r0 r1 r2 r3 : ℕ) : Type 0 where
-  pub room : at + w ≤ length s
-  pub first : r0 + w ≤ at
-  pub second : r1 + w ≤ at
-  pub third : r2 + w ≤ at
-  pub fourth : r3 + w ≤ at
-
 -- sum b of those from `at`, after i rows of the panels: the left one's column from l, and the right one's column b from r
 unfoldable pub sumAt : List Float → ℕ → ℕ → ℕ → ℕ → ℕ → ℕ → Float
 sumAt s at l r cc i b = products (s ! (at + b)) (λ k. s ! (l + k * cc)) (λ k. s ! (r + k * cc + b)) i
@@ -97,3 +85,27 @@ pub record Block (s : List Float) (g p nj nk d l r cc nr : ℕ) : Type 0 where
   pub rights : nk ≤ cc
   pub left : l + nr * cc ≤ g
   pub right : r + nr * cc ≤ g
+
+-- ---- the mirror
+
+-- how many elements the rows of the lower triangle have
+abbrev pub low : ℕ → ℕ
+low j = j + 1
+
+-- column k below the diagonal, read into row k right of it
+abbrev pub across : List Float → ℕ → ℕ → ℕ → Float
+across s from p b = s ! (from + b * p)
+
+-- how many elements of row k stand right of the diagonal
+abbrev pub right-of : ℕ → ℕ → ℕ
+right-of p k = p - (k + 1)
+
+-- those elements, each from its place below the diagonal
+abbrev pub fromBelow : List Float → ℕ → ℕ → ℕ → ℕ → Float
+fromBelow s ga p k = across s (ga + p + k * (p + 1)) p
+
+-- the row lies before the column
+pub record MirrorRow (s : List Float) (to from p n : ℕ) : Type 0 where
+  pub some : 1 ≤ p
+  pub apart : to + n ≤ from
+  pub room : from + n * p < length s + p

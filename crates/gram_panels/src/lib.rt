@@ -1,8 +1,13 @@
-// Panels of the normalised matrix, and the products of two panels added to a block of the Gram's sums. Each sum takes the rows in their order.
+// Panels of the normalised matrix, the products of two panels added to a block of the Gram's sums, and its upper triangle from the lower. Each sum takes the rows
+// in their order.
 use arrays::vectors::add_scaled;
+use several::add_four;
 ghost use mathlib.Core.Path.{_≡_};
+ghost use Prim.Native.Nat.{_+_, _*_, _≤_};
+ghost use lib.ListN.{length};
 ghost use Rattle.arrays.specs.Part.{put, tab};
-ghost use Rattle.gram_panels.specs.Panels.{least, normAt, FillRow, mat, same, panelAt, Fill, wid, fourAt, AddFour, sumAt, EntryRow, carry, Block};
+ghost use Rattle.gram_panels.specs.Panels.{least, normAt, FillRow, mat, same, panelAt, Fill, wid, sumAt, EntryRow, carry, Block};
+ghost use Rattle.gram_panels.specs.Panels.{across, right-of, fromBelow, MirrorRow};
 
 // The smaller of the two: a panel at the edge has only what is left.
 pub fn least_of(a: usize, b: usize) -> usize
@@ -55,47 +60,7 @@ pub fn fill_panel(
     }
 }
 
-// The products of four numbers and w elements from each of four places, added to w sums in turn.
-fn add_four(
-    s: &mut [f64],
-    at: usize,
-    w: usize,
-    v0: f64,
-    v1: f64,
-    v2: f64,
-    v3: f64,
-    r0: usize,
-    r1: usize,
-    r2: usize,
-    r3: usize,
-)
-    requires { ⌜ AddFour (now s) at w r0 r1 r2 r3 ⌝ }
-    ensures { λ _. ⌜ now (s .exit) ≡ put (now (s .entry)) at (tab (fourAt (now (s .entry)) at v0 v1 v2 v3 r0 r1 r2 r3) w) ⌝ }
-{
-    let mut b = 0usize;
-    while b < w {
-        s[at + b] = s[at + b] + v0 * s[r0 + b] + v1 * s[r1 + b] + v2 * s[r2 + b] + v3 * s[r3 + b];
-        b += 1;
-    }
-}
-
-// The products of four rows of the panels, added to w sums in the rows' order.
-fn four_rows(s: &mut [f64], at: usize, w: usize, l: usize, r: usize, cc: usize)
-    requires { ⌜ EntryRow (now s) at w l r cc 4 ⌝ }
-    ensures { λ _. ⌜ now (s .exit) ≡ put (now (s .entry)) at (tab (sumAt (now (s .entry)) at l r cc 4) w) ⌝ }
-{
-    let l1 = l + cc;
-    let l2 = l1 + cc;
-    let v0 = s[l];
-    let v1 = s[l1];
-    let v2 = s[l2];
-    let v3 = s[l2 + cc];
-    let r1 = r + cc;
-    let r2 = r1 + cc;
-    add_four(s, at, w, v0, v1, v2, v3, r, r1, r2, r2 + cc);
-}
-
-// The same of nr rows, one at a time.
+// The products of nr rows of the panels, one row at a time, added to the w sums of one entry row.
 fn few_rows(s: &mut [f64], at: usize, w: usize, l: usize, r: usize, cc: usize, nr: usize)
     requires { ⌜ EntryRow (now s) at w l r cc nr ⌝ }
     ensures { λ _. ⌜ now (s .exit) ≡ put (now (s .entry)) at (tab (sumAt (now (s .entry)) at l r cc nr) w) ⌝ }
@@ -109,8 +74,8 @@ fn few_rows(s: &mut [f64], at: usize, w: usize, l: usize, r: usize, cc: usize, n
     }
 }
 
-// The products of nr rows of the panels, added to the w sums of one entry row. By fours, so that a sum is read and written once for four products; the rest in
-// a loop of its own, since then the compiler tests once for all fours, and not for each, whether sums and panels overlap.
+// The same by fours, so that a sum is read and written once for four products; the rest in a loop of its own, since then the compiler tests once for all fours,
+// and not for each, whether sums and panels overlap.
 fn entry_row(s: &mut [f64], at: usize, w: usize, l: usize, r: usize, cc: usize, nr: usize)
     requires { ⌜ EntryRow (now s) at w l r cc nr ⌝ }
     ensures { λ _. ⌜ now (s .exit) ≡ put (now (s .entry)) at (tab (sumAt (now (s .entry)) at l r cc nr) w) ⌝ }
@@ -118,7 +83,7 @@ fn entry_row(s: &mut [f64], at: usize, w: usize, l: usize, r: usize, cc: usize, 
     let mut i = 0usize;
     while 4 <= nr - i {
         let q = i * cc;
-        four_rows(s, at, w, l + q, r + q, cc);
+        add_four(s, at, l + q, cc, r + q, cc, w);
         i += 4;
     }
     let q = i * cc;
@@ -147,5 +112,30 @@ pub fn block(
         let w = least_of(nk, d + a + 1);
         entry_row(s, g + a * p, w, l + a, r, cc, nr);
         a += 1;
+    }
+}
+
+// n elements of a column, which begins at `from`, into the row at `to`.
+fn mirror_row(s: &mut [f64], to: usize, from: usize, p: usize, n: usize)
+    requires { ⌜ MirrorRow (now s) to from p n ⌝ }
+    ensures { λ _. ⌜ now (s .exit) ≡ put (now (s .entry)) to (tab (across (now (s .entry)) from p) n) ⌝ }
+{
+    let mut b = 0usize;
+    while b < n {
+        s[to + b] = s[from + b * p];
+        b += 1;
+    }
+}
+
+// The upper triangle from the lower, entry by entry: for a matrix that is symmetric to the bit, of which the lower half was made.
+pub fn mirror(s: &mut [f64], ga: usize, p: usize)
+    requires { ⌜ ga + p * p ≤ length (now s) ⌝ }
+    ensures { λ _. ⌜ now (s .exit) ≡ mat (now (s .entry)) (ga + 1) (p + 1) (right-of p) (fromBelow (now (s .entry)) ga p) p ⌝ }
+{
+    let mut k = 0usize;
+    while k < p {
+        let q = k * (p + 1);
+        mirror_row(s, ga + 1 + q, ga + p + q, p, p - (k + 1));
+        k += 1;
     }
 }

@@ -3,3 +3,4 @@ pub mod Opening
 pub mod Solving
 pub mod Trial
 pub mod Fit
+pub mod Gradphi

@@ -4,10 +4,9 @@ use mathlib.Core.List.{List}
 use Prim.Native.Nat.{ℕ, _+_, _*_, _<_}
 use lib.Ieee.{Float, binary64}
 use Rattle.arrays.specs.Sums.{_!_}
-use Rattle.arrays.proofs.Folds.{fold-ext}
+use Rattle.arrays.proofs.Folds.{fold-ext, fold-on}
 use Rattle.arrays.proofs.Commute.{times-comm}
 use Rattle.gram_panels.specs.Panels.{cell, carry}
-use Rattle.gram_panels.proofs.Sums.{fold-on}
 use Rattle.lazy_gram.specs.Nest.{adv, entry}
 
 pub cell-like : (m : List Float) (p : ℕ) (s t : List Float) (ce sc i j : ℕ) → s ! (ce + j) ≡ t ! (ce + j) → s ! (sc + j) ≡ t ! (sc + j)

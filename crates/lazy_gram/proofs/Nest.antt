@@ -9,11 +9,11 @@ use lib.ListN.{length}
 use lib.Ieee.{Float}
 use Rattle.arrays.specs.Sums.{_!_}
 use Rattle.arrays.proofs.Folds.{fold-none}
-use Rattle.gram_panels.specs.Panels.{mat, least, same, wid, cell, panelAt, carry, Block}
+use Rattle.gram_panels.specs.Panels.{mat, least, same, wid, cell, panelAt, carry, Block, low}
 use Rattle.gram_panels.proofs.Mats.{row-le, ends, length-mat, mat-below, mat-beyond, mat-in, mat-gap, mat-self, mat-ext, mat-none}
 use Rattle.gram_panels.proofs.Mats.{mat-mat, mat-append, mat-wide, striped-none}
 use Rattle.lazy_gram.specs.declared.GramPlaces.{GramPlaces}
-use Rattle.lazy_gram.specs.Nest.{Like, tri, low, entry}
+use Rattle.lazy_gram.specs.Nest.{Like, tri, entry}
 use Rattle.lazy_gram.specs.Nest.{next, advanced, whole, advancedLow, Lie, Pairs, Rows, Clear}
 use Rattle.lazy_gram.proofs.Likes.{like-refl, like-trans, like-mat, like-panel, like-wide}
 use Rattle.lazy_gram.proofs.Carried.{cell-like, carry-adv, adv-like, adv-entry}

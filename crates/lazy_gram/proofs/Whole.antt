@@ -2,16 +2,16 @@
 use mathlib.Core.Path.{_≡_, refl, sym, ap, _∙_, subst}
 use mathlib.Core.Bool.{Bool, true, false}
 use mathlib.Core.List.{List}
-use Prim.Native.Nat.{ℕ, zero, suc, _+_, _-_, _*_, _≤_, _<_}
-use native.Mathlib.Nat.{one-mul, mul-add, mul-one, add-mul, mul-le-mul-right}
+use Prim.Native.Nat.{ℕ, _+_, _-_, _*_, _≤_, _<_}
+use native.Mathlib.Nat.{one-mul, mul-add, mul-one, mul-le-mul-right}
 use native.Mathlib.Omega.{arith}
 use borrow.Author.Tests.{eqb-true, eqb-false, eq-eqb, ne-eqb}
 use lib.Dec.{eqb}
 use lib.ListN.{length}
 use lib.Ieee.{Float, nan}
 use Rattle.numbers.specs.Ops.{_⊗_}
-use Rattle.arrays.specs.Part.{part, put, tab}
-use Rattle.arrays.proofs.Part.{put-append, length-put, getD-part, part-put-above, put-comm, put-none}
+use Rattle.arrays.specs.Part.{part, put}
+use Rattle.arrays.proofs.Part.{length-put, getD-part, part-put-above, put-comm}
 use Rattle.arrays.specs.Sums.{_!_, plus0}
 use Rattle.arrays.specs.Vectors.{fillOf}
 use Rattle.arrays.proofs.Lengths.{length-fill}
@@ -22,44 +22,14 @@ use Rattle.layout.specs.declared.Sizes.{Sizes}
 use Rattle.layout.specs.declared.Places.{Places}
 use Rattle.layout.specs.Slots.{Slot.CENTRE, Slot.SCALE, Slot.LEFT, Slot.RIGHT, Slot.GRAM, off, words, Has, vars, rest}
 use Rattle.layout.proofs.Slots.{start, then}
-use Rattle.gram_panels.specs.Panels.{mat, same, cell}
-use Rattle.gram_panels.proofs.Mats.{row-le, put-tab-tab, length-mat, mat-below, mat-in, mat-ext, mat-mat, mat-put}
+use Rattle.gram_panels.specs.Panels.{mat, cell, low, right-of, fromBelow}
+use Rattle.gram_panels.proofs.Mats.{row-le, put-tab-tab, length-mat, mat-below, mat-in, mat-ext, mat-mat}
+use Rattle.gram_panels.proofs.Square.{mirrored}
 use Rattle.lazy_gram.specs.Gram.{cellAt, entryOf, lazyGramOf, lazyGramStore, Lent}
 use Rattle.lazy_gram.specs.declared.GramPlaces.{GramPlaces}
-use Rattle.lazy_gram.specs.Nest.{Like, low, entry, Rows, Clear, nones, raised, raisedAt, right-of, fromBelow, gramAt}
+use Rattle.lazy_gram.specs.Nest.{Like, entry, Rows, Clear, nones, raised, raisedAt, gramAt}
 use Rattle.lazy_gram.proofs.Likes.{like-mat, like-clear}
 use Rattle.lazy_gram.proofs.Carried.{entry-like, entry-sym}
-
--- ---- triangle, square and grid
-
--- the lower triangle and the upper are the square
-square : (s : List Float) (ga p : ℕ) (f : ℕ → ℕ → Float) (n : ℕ) → n ≤ p
-    → mat (mat s ga p low f n) (ga + 1) (p + 1) (right-of p) (λ k b. f k (k + 1 + b)) n ≡ mat s ga p (same p) f n
-unfolding mat
-square s ga p f zero h = refl
-square s ga p f (suc n) h =
-    let U : ℕ → ℕ → Float = λ k b. f k (k + 1 + b) in
-    let S = mat s ga p low f n in
-    let q = ga + n * p in
-    let last = tab (U n) (right-of p n) in
-    let T = mat s ga p (same p) f n in
-    let hq : (a : ℕ) → a < n → ga + 1 + a * (p + 1) + right-of p a ≤ q = λ a m. omega (arith, row-le a n p m, mul-add a p 1, mul-one a) in
-    let e : ga + 1 + n * (p + 1) ≡ q + (n + 1) = omega (arith, mul-add n p 1, mul-one n) in
-    let e2 : n + 1 + right-of p n ≡ p = omega arith in
-    ap (λ (r : List Float). put r (ga + 1 + n * (p + 1)) last) (mat-put S (ga + 1) (p + 1) (right-of p) U q (tab (f n) (n + 1)) n hq)
-    ∙ ap (λ (r : List Float). put (put r q (tab (f n) (n + 1))) (ga + 1 + n * (p + 1)) last) (square s ga p f n (omega arith))
-    ∙ ap (λ (i : ℕ). put (put T q (tab (f n) (n + 1))) i last) e
-    ∙ put-tab-tab T q (n + 1) (f n) (right-of p n)
-    ∙ ap (λ (i : ℕ). put T q (tab (f n) i)) e2
-
--- rows without a gap are a grid
-mat-grid : (s : List Float) (at p : ℕ) (f : ℕ → ℕ → Float) (n : ℕ) → mat s at p (same p) f n ≡ put s at (grid f n p)
-unfolding mat grid
-mat-grid s at p f zero = sym (put-none s at)
-mat-grid s at p f (suc n) =
-    ap (λ (r : List Float). put r (at + n * p) (tab (f n) p)) (mat-grid s at p f n)
-    ∙ ap (λ (i : ℕ). put (put s at (grid f n p)) (at + i) (tab (f n) p)) (sym (length-grid f n p))
-    ∙ put-append s at (grid f n p) (tab (f n) p)
 
 -- ---- the entries
 
@@ -117,7 +87,6 @@ module _ {m : List Float} {n p rr : ℕ} {s₀ : List Float} {pl : GramPlaces} (
       let F : ℕ → ℕ → Float = λ j i. raised gg pp (eqb j i) (S j i) in
       let M = mat s₀ (pl .ga) p low S p in
       let N = mat s₀ (pl .ga) p low F p in
-      let U : ℕ → ℕ → Float = λ j b. F j (j + 1 + b) in
       let fits : (a : ℕ) → a < p → (pl .ga) + a * p + low a ≤ length s₀ = λ a l. omega (arith, pre, row-le a p p l) in
       let m₁ : mat s₁ (pl .ga) p low (entry c₁ n) p ≡ M =
       mat-ext s₁ (pl .ga) p low low (entry c₁ n) S p (λ a l. refl)
@@ -135,19 +104,15 @@ module _ {m : List Float} {n p rr : ℕ} {s₀ : List Float} {pl : GramPlaces} (
       (subst (λ (t : List Float). Like (pl .le) en (mat s₂ (pl .ga) p low F p) t) (mat-mat s₀ (pl .ga) p low S F p (λ a l. omega arith))
       (like-mat (pl .le) en s₂ M (pl .ga) p low F p (λ a l. rw len (fits a l)) L)) in
       let len₃ : length s₃ ≡ length s₀ = L₃ .len ∙ length-mat s₀ (pl .ga) p low F p in
+      let U = fromBelow N (pl .ga) p in
       let t₄ : mat s₃ ((pl .ga) + 1) (p + 1) (right-of p) (fromBelow s₃ (pl .ga) p) p ≡ mat s₃ ((pl .ga) + 1) (p + 1) (right-of p) U p =
       mat-ext s₃ ((pl .ga) + 1) (p + 1) (right-of p) (right-of p) (fromBelow s₃ (pl .ga) p) U p (λ a l. refl)
-      (λ j b hj hb.
-      let e : (pl .ga) + p + j * (p + 1) + b * p ≡ (pl .ga) + (j + 1 + b) * p + j =
-      omega (arith, mul-add j p 1, mul-one j, add-mul (j + 1) b p, add-mul j 1 p, one-mul p) in
-      let hk : j + 1 + b < p = omega arith in
-      L₃ .high ((pl .ga) + p + j * (p + 1) + b * p) (omega (arith, pre)) ∙ ap (λ (q : ℕ). N ! q) e
-      ∙ mat-in s₀ (pl .ga) p low F p (j + 1 + b) j (λ i l. omega arith) (fits (j + 1 + b) hk) hk (omega arith)
-      ∙ raised-sym gg pp S (λ a i. entry-sym D n a i) (j + 1 + b) j) in
+      (λ j b hj hb. L₃ .high ((pl .ga) + p + j * (p + 1) + b * p) (omega (arith, pre))) in
       let L₄ : Like (pl .le) en (mat s₃ ((pl .ga) + 1) (p + 1) (right-of p) U p) (mat N ((pl .ga) + 1) (p + 1) (right-of p) U p) =
       like-mat (pl .le) en s₃ N ((pl .ga) + 1) (p + 1) (right-of p) U p (λ a l. omega (arith, pre, row-le a p p l, mul-add a p 1, mul-one a)) L₃ in
       subst (λ (v : List Float). Like (pl .le) en v (put s₀ (pl .ga) (grid F p p))) (sym (e₄ ∙ t₄))
-      (subst (λ (v : List Float). Like (pl .le) en (mat s₃ ((pl .ga) + 1) (p + 1) (right-of p) U p) v) (square s₀ (pl .ga) p F p (omega arith) ∙ mat-grid s₀ (pl .ga) p F p) L₄)
+      (subst (λ (v : List Float). Like (pl .le) en (mat s₃ ((pl .ga) + 1) (p + 1) (right-of p) U p) v)
+      (mirrored s₀ (pl .ga) p F (pre .gram) (raised-sym gg pp S (λ a i. entry-sym D n a i))) L₄)
 
 -- ---- in the layout
 

@@ -1,9 +1,9 @@
 -- Inner definitions: no promise names them.
--- What the loops over pairs of panels make of the scratch, from the innermost outwards, then the augmentation and the mirror, and what each asks.
+-- What the loops over pairs of panels make of the scratch, from the innermost outwards, then the augmentation, and what each asks.
 use mathlib.Core.Path.{_≡_}
 use mathlib.Core.Bool.{Bool, cond}
 use mathlib.Core.List.{List}
-use Prim.Native.Nat.{ℕ, _+_, _-_, _*_, _≤_, _<_}
+use Prim.Native.Nat.{ℕ, _+_, _*_, _≤_, _<_}
 use lib.Dec.{eqb}
 use lib.ListN.{length}
 use lib.Ieee.{Float}
@@ -11,18 +11,15 @@ use Rattle.numbers.specs.Ops.{_⊕_, _⊗_}
 use Rattle.arrays.specs.Part.{part}
 use Rattle.arrays.specs.Sums.{_!_, products, plus0}
 use Rattle.matrices.specs.Grid.{grid}
-use Rattle.gram_panels.specs.Panels.{mat, cell}
+use Rattle.gram_panels.specs.Panels.{mat, cell, low}
 use Rattle.lazy_gram.specs.declared.GramPlaces.{GramPlaces}
 use Rattle.lazy_gram.specs.Gram.{entryOf}
 
 -- ---- rows of the lower triangle, and lists that are the same but for the panels
 
--- the lower triangle's rows, from row j of the Gram on, and from row 0
+-- the lower triangle's rows, from row j of the Gram on
 abbrev pub tri : ℕ → ℕ → ℕ
 tri j a = j + (a + 1)
-
-abbrev pub low : ℕ → ℕ
-low j = j + 1
 
 -- the same but from `le` to `en`
 pub record Like (le en : ℕ) (s t : List Float) : Type 0 where
@@ -99,7 +96,7 @@ Clear s p ga = (j k : ℕ) → j < p → k < low j → s ! (ga + j * p + k) ≡ 
 abbrev pub nones : ℕ → ℕ → Float
 nones j k = plus0
 
--- ---- augmentation and mirror
+-- ---- augmentation
 
 -- times gg, and on the diagonal plus pp
 abbrev pub raised : Float → Float → Bool → Float → Float
@@ -107,24 +104,6 @@ raised gg pp diagonal x = cond diagonal (x ⊗ gg ⊕ pp) (x ⊗ gg)
 
 abbrev pub raisedAt : List Float → ℕ → Float → Float → ℕ → ℕ → Float
 raisedAt s at gg pp j k = raised gg pp (eqb j k) (s ! (at + k))
-
--- column k below the diagonal, read into row k right of it
-abbrev pub across : List Float → ℕ → ℕ → ℕ → Float
-across s from p b = s ! (from + b * p)
-
--- how many elements of row k stand right of the diagonal
-abbrev pub right-of : ℕ → ℕ → ℕ
-right-of p k = p - (k + 1)
-
--- those elements, each from its place below the diagonal
-abbrev pub fromBelow : List Float → ℕ → ℕ → ℕ → ℕ → Float
-fromBelow s ga p k = across s (ga + p + k * (p + 1)) p
-
--- the row lies before the column
-pub record MirrorRow (s : List Float) (to from p n : ℕ) : Type 0 where
-  pub some : 1 ≤ p
-  pub apart : to + n ≤ from
-  pub room : from + n * p < length s + p
 
 -- ---- the whole
 

@@ -5,6 +5,7 @@ use arrays::vectors::times;
 use gram_panels::block;
 use gram_panels::fill_panel;
 use gram_panels::least_of;
+use gram_panels::mirror;
 use layout::Places;
 use layout::Sizes;
 use settings::Terms;
@@ -13,10 +14,10 @@ ghost use Prim.Native.Nat.{_+_, _-_, _*_, _≤_, _<_};
 ghost use lib.ListN.{length};
 ghost use Rattle.arrays.specs.Part.{put, tab};
 ghost use Rattle.layout.specs.Slots.{Makes};
-ghost use Rattle.gram_panels.specs.Panels.{mat, same, least, cell};
+ghost use Rattle.gram_panels.specs.Panels.{mat, same, least, cell, low};
 ghost use Rattle.lazy_gram.specs.Gram.{lazyGramStore, Lent};
-ghost use Rattle.lazy_gram.specs.Nest.{Like, entry, advanced, Pairs, tri, low, advancedLow, Lie, Column, Rows, Clear, nones};
-ghost use Rattle.lazy_gram.specs.Nest.{raisedAt, across, right-of, fromBelow, MirrorRow, gramAt};
+ghost use Rattle.lazy_gram.specs.Nest.{Like, entry, advanced, Pairs, tri, advancedLow, Lie, Column, Rows, Clear, nones};
+ghost use Rattle.lazy_gram.specs.Nest.{raisedAt, gramAt};
 
 // Where things lie in the scratch: the columns' centres and scales, the left and the right panel, whose rows have cc words, and the Gram.
 pub struct GramPlaces {
@@ -125,31 +126,6 @@ fn augment(s: &mut [f64], ga: usize, p: usize, gg: f64, pp: f64)
     while j < p {
         augment_row(s, ga + j * p, j, gg, pp);
         j += 1;
-    }
-}
-
-// n elements of a column, which begins at `from`, into the row at `to`.
-fn mirror_row(s: &mut [f64], to: usize, from: usize, p: usize, n: usize)
-    requires { ⌜ MirrorRow (now s) to from p n ⌝ }
-    ensures { λ _. ⌜ now (s .exit) ≡ put (now (s .entry)) to (tab (across (now (s .entry)) from p) n) ⌝ }
-{
-    let mut b = 0usize;
-    while b < n {
-        s[to + b] = s[from + b * p];
-        b += 1;
-    }
-}
-
-// The upper triangle from the lower.
-fn mirror(s: &mut [f64], ga: usize, p: usize)
-    requires { ⌜ ga + p * p ≤ length (now s) ⌝ }
-    ensures { λ _. ⌜ now (s .exit) ≡ mat (now (s .entry)) (ga + 1) (p + 1) (right-of p) (fromBelow (now (s .entry)) ga p) p ⌝ }
-{
-    let mut k = 0usize;
-    while k < p {
-        let q = k * (p + 1);
-        mirror_row(s, ga + 1 + q, ga + p + q, p, p - (k + 1));
-        k += 1;
     }
 }
 

@@ -1,47 +1,45 @@
--- Loops over a row: what is read is the design's entry, and the turns that sum a row's products and that add a row to the columns' sums. Assumes nothing.
-use mathlib.Core.Path.{_≡_, refl, sym}
+-- What the products read is the design's entries, in a slice whose columns' numbers and vector no write touches. Assumes nothing.
+use mathlib.Core.Path.{_≡_}
 use mathlib.Core.List.{List}
 use Prim.Native.Nat.{ℕ, _+_, _*_, _≤_, _<_}
 use native.Mathlib.Omega.{arith}
-use lib.ListN.{set}
-use lib.Ieee.{Float, nan}
-use Rattle.numbers.specs.Ops.{_⊕_, _⊗_}
+use lib.ListN.{length}
+use lib.Ieee.{Float}
 use Rattle.arrays.specs.Part.{part}
-use Rattle.arrays.proofs.Part.{getD-part}
-use Rattle.arrays.specs.Sums.{_!_, products, plus0}
-use Rattle.arrays.proofs.Folds.{fold-turn}
-use Rattle.arrays.specs.Vectors.{Clear}
-use Rattle.arrays.proofs.Turns.{Made, made-more, kept}
-use Rattle.lazy_normalization.specs.Lazy.{normalised, lazyAt}
+use Rattle.arrays.specs.Sums.{_!_}
+use Rattle.arrays.proofs.Turns.{Made, part-kept}
+use Rattle.layout.specs.declared.Places.{Places}
+use Rattle.lazy_normalization.specs.Lazy.{Reads, normalised, lazyAt}
 
 -- row i of m with the centres, scales and reciprocals at ce, sc and rc of s
 abbrev pub rowOf : List Float → List Float → ℕ → ℕ → ℕ → ℕ → ℕ → ℕ → Float
 rowOf m s p ce sc rc i k = lazyAt p m (part s ce p) (part s sc p) (part s rc p) i k
 
 -- the row starts at `at`; a, b and c are the centre, the scale and the reciprocal of column j
-entry : (m s : List Float) (p ce sc rc i at j : ℕ) {a b c x : Float} → at ≡ i * p → a ≡ part s ce p ! j → b ≡ part s sc p ! j → c ≡ part s rc p ! j
+pub entry : (m s : List Float) (p ce sc rc i at j : ℕ) {a b c x : Float} → at ≡ i * p → a ≡ part s ce p ! j → b ≡ part s sc p ! j → c ≡ part s rc p ! j
     → x ≡ normalised (m ! (at + j)) a b c → x ≡ rowOf m s p ce sc rc i j
 entry m s p ce sc rc i at j e ea eb ec y = rw (y, e, ea, eb, ec)
 
-pub row-more : (m s : List Float) (p ce sc rc v i at j : ℕ) {x y : Float} → at ≡ i * p → j < p
-    → x ≡ products plus0 (rowOf m s p ce sc rc i) (λ k. part s v p ! k) j
-    → y ≡ normalised (m ! (at + j)) (s ! (ce + j)) (s ! (sc + j)) (s ! (rc + j))
-    → x ⊕ y ⊗ s ! (v + j) ≡ products plus0 (rowOf m s p ce sc rc i) (λ k. part s v p ! k) (j + 1)
-row-more m s p ce sc rc v i at j e h ex y =
-    let q = entry m s p ce sc rc i at j e (read ce) (read sc) (read rc) y in
-    fold-turn _ plus0 _ j _ _ ex (rw (q, read v))
-  where
-    read : (a : ℕ) → s ! (a + j) ≡ part s a p ! j
-    read a = sym (getD-part s a p j nan h)
+-- row i, column j of the design with the columns' numbers that lie in s
+abbrev pub design : List Float → List Float → ℕ → Places → ℕ → ℕ → Float
+design m s p l i j = rowOf m s p (l .centre) (l .scale) (l .recip) i j
 
-pub add-more : {s₀ s : List Float} {out p j : ℕ} (m : List Float) (ce sc rc i at : ℕ) (x : Float) {y : Float} → at ≡ i * p → j < p
-    → Clear out ce p → Clear out sc p → Clear out rc p → Made s₀ out p (λ k. part s₀ out p ! k ⊕ rowOf m s₀ p ce sc rc i k ⊗ x) s j
-    → y ≡ normalised (m ! (at + j)) (s ! (ce + j)) (s ! (sc + j)) (s ! (rc + j))
-    → Made s₀ out p (λ k. part s₀ out p ! k ⊕ rowOf m s₀ p ce sc rc i k ⊗ x) (set s (out + j) (s ! (out + j) ⊕ y ⊗ x)) (j + 1)
-add-more {s₀} {s} {out} {p} {j} m ce sc rc i at x {y} e h kc ks kr d n =
-    let q = entry m s₀ p ce sc rc i at j e (kept d ce h kc) (kept d sc h ks) (kept d rc h kr) n in
-    made-more d (s ! (out + j) ⊕ y ⊗ x) h (rw (q, kept d out h (λ _ _. refl)))
+-- what the products read
+pub record Unwritten (s₀ s : List Float) (p : ℕ) (l : Places) (v nv : ℕ) : Type 0 where
+  pub centres : part s (l .centre) p ≡ part s₀ (l .centre) p
+  pub scales : part s (l .scale) p ≡ part s₀ (l .scale) p
+  pub reciprocals : part s (l .recip) p ≡ part s₀ (l .recip) p
+  pub vector : part s v nv ≡ part s₀ v nv
 
--- p elements from a lie between low and high
-pub clear-of : (out p low high a : ℕ) → (out < high → out + p ≤ low) → low ≤ a → a + p ≤ high → Clear out a p
-clear-of out p low high a h l k x y = absurd (omega (arith, h (omega arith)))
+pub unwritten-of : {m : List Float} {n p : ℕ} {s₁ : List Float} {l : Places} {v nv out no : ℕ} → Reads m n p s₁ l v nv out no → {s₀ s : List Float}
+    → ((a k : ℕ) → (out < a + k → out + no ≤ a) → a + k ≤ length s₁ → part s a k ≡ part s₀ a k) → Unwritten s₀ s p l v nv
+unwritten-of {p = p} {l = l} {v} {nv} r kept = record {
+  centres = kept (l .centre) p (λ h. omega (arith, r .off-columns (omega arith))) (omega arith);
+  scales = kept (l .scale) p (λ h. omega (arith, r .off-columns (omega arith))) (omega arith);
+  reciprocals = kept (l .recip) p (λ h. omega (arith, r .off-columns h)) (r .reciprocals);
+  vector = kept v nv (r .off-vector) (r .vector);
+}
+
+pub while-made : {m : List Float} {n p : ℕ} {s₁ : List Float} {l : Places} {v nv out no : ℕ} → Reads m n p s₁ l v nv out no
+    → {s₀ s : List Float} {k i : ℕ} {f : ℕ → Float} → k ≤ no → Made s₀ out k f s i → Unwritten s₀ s p l v nv
+while-made r q d = unwritten-of r (λ a k off _. part-kept d a k (λ h. omega (arith, off h)))

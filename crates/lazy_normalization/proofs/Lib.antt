@@ -1,5 +1,4 @@
 pub mod Choice
 pub mod Neutral
 pub mod Unnormalised
-mod Entries
-mod Products
+pub mod Entries

@@ -2,7 +2,7 @@
 use mathlib.Core.Path.{_≡_}
 use mathlib.Core.List.{List}
 use Prim.Native.Nat.{ℕ, _+_, _*_, _≤_, _<_}
-use native.Mathlib.Nat.{mul-le-mul-right, suc-mul}
+use native.Mathlib.Nat.{mul-le-mul-right, suc-mul, add-mul}
 use native.Mathlib.Numerals.{add-one}
 use lib.ListN.{length}
 use lib.Ieee.{Float}
@@ -23,3 +23,7 @@ row-room i rows cols h = rw (suc-mul i cols) at (mul-le-mul-right cols h)
 
 pub next-row : (i cols : ℕ) → i * cols + cols ≡ (i + 1) * cols
 next-row i cols = rw (add-one, suc-mul)
+
+-- n rows from row i lie within `rows` rows
+pub rows-room : (i n rows cols : ℕ) → i + n ≤ rows → i * cols + n * cols ≤ rows * cols
+rows-room i n rows cols h = rw (← add-mul i n cols) (mul-le-mul-right cols h)

@@ -1,4 +1,3 @@
 pub mod Grid
 pub mod Lengths
 mod Rows
-mod Moments

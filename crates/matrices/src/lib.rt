@@ -1,3 +1,2 @@
-// What arrays.rs does with a matrix: products with a vector, and the statistics of its columns. A matrix is by rows.
+// What arrays.rs does with a matrix, which is by rows: products with a vector.
 pub mod products;
-pub mod stats;

@@ -193,6 +193,6 @@ fn gram(m: &[f64], given: &[f64], sh: Sizes, t: Terms, s: &mut [f64], l: Places)
         lazy_gram::gram(m, sh, t, s, l);
         return l.gram;
     }
-    design::eager::gram(sh, s, l);
+    eager_gram::gram(sh, s, l);
     l.gram
 }

@@ -1,5 +1,6 @@
 -- What the calls of each function leave together, over the store. Assumes nothing.
-use mathlib.Core.Path.{_≡_}
+use mathlib.Core.Path.{_≡_, ap, _∙_}
+use mathlib.Core.Bool.{false}
 use mathlib.Core.List.{List}
 use Prim.Native.Nat.{ℕ, _+_, _≤_}
 use native.Mathlib.Omega.{arith}
@@ -11,13 +12,15 @@ use Rattle.arrays.proofs.Lengths.{length-map, length-zip}
 use Rattle.settings.specs.declared.Terms.{Terms}
 use Rattle.layout.specs.declared.Sizes.{Sizes}
 use Rattle.layout.specs.declared.Places.{Places}
-use Rattle.layout.specs.Slots.{Store, Has, Laid, vars}
+use Rattle.layout.specs.Store.{upd}
+use Rattle.layout.specs.Slots.{Store, _⟨_≔_⟩, Has, Laid, vars}
 use Rattle.layout.proofs.Slots.{then}
 use Rattle.layout.specs.Slots.{Slot.W, Slot.U, Slot.Q1, Slot.Q2, Slot.D1, Slot.D2, Slot.PRB, Slot.PRS, Slot.GRAD, Slot.XNU, Slot.Z}
 use Rattle.design.specs.Mode.{transposedOf}
 use Rattle.design.proofs.Lengths.{length-transposed}
 use Rattle.newton.specs.Newton.{overSum, overDifference, sumOfSquares, differenceOfSquares, g1Of, g2At, gradOf, prbAt, prsOf}
 use Rattle.newton.proofs.Lengths.{length-g1, length-grad, length-prs}
+use Rattle.lasso_optimizer.specs.Gradphi.{Gradphi}
 use Rattle.lasso_optimizer.specs.Opening.{barrierStore, gradientStore, preconditionerStore}
 
 -- the two halves of grad are one write: the second reads below the first
@@ -32,6 +35,17 @@ grad-joined p lambda t xnu q1 q2 g a b m {m₁} e₁ e₂ =
     let at-q1 : part m₁ q1 p ≡ part m q1 p = rw e₁ (part-put-above m g low q1 p a) in
     let at-q2 : part m₁ q2 p ≡ part m q2 p = rw e₁ (part-put-above m g low q2 p b) in
     rw (e₂, at-q1, at-q2, e₁) (rw (length-map neg p (part m xnu p)) at (put-append m g low high))
+
+-- the product of z is the same after the barrier's terms are written
+pub after-barrier : (sh : Sizes) (tm : Terms) (d : List Float) (t : Float) (v : Store) (g : List Float) → Gradphi sh tm d v g → Gradphi sh tm d (barrierStore sh t v) g
+unfolding Gradphi transposedOf barrierStore _⟨_≔_⟩ upd
+after-barrier sh tm d t v g h = h
+
+-- a copy of it
+pub gradphi-copied : {sh : Sizes} {l : Places} (w : Laid sh l) (tm : Terms) (d g s : List Float) {s′ : List Float} → sh .lazy ≡ false → Gradphi sh tm d (vars sh s) g
+    → s′ ≡ put s (l .xnu) (part g 0 (sh .p)) → s′ ≡ put s (l .xnu) (transposedOf sh tm d (vars sh s) (part s (l .z) (sh .k)))
+unfolding Gradphi
+gradphi-copied {sh} {l} w tm d g s z h e = rw (w .at-z) (e ∙ ap (put s (l .xnu)) (h z))
 
 module _ {sh : Sizes} {l : Places} (w : Laid sh l) {e : List Float} {v : Store} {m : List Float} (h : Has sh e v m) where
   pub barrier-left : (t : Float) {m₁ m₂ m₃ m₄ : List Float}

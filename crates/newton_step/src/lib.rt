@@ -1,4 +1,5 @@
 // The Newton part of an opening: the barrier's terms, the gradient and the preconditioner, for the weight t of the barrier.
+use arrays::vectors::copy_from;
 use design::mode::transposed;
 use layout::Places;
 use layout::Sizes;
@@ -12,8 +13,11 @@ use newton::prb;
 use newton::prs;
 use newton::sum_of_squares;
 use settings::Terms;
-ghost use Rattle.design.specs.Mode.{Held};
-ghost use Rattle.layout.specs.Slots.{Room, Makes};
+ghost use mathlib.Core.Path.{_≡_};
+ghost use Rattle.arrays.specs.Part.{part, put};
+ghost use Rattle.design.specs.Mode.{transposedOf, Held};
+ghost use Rattle.layout.specs.Slots.{Room, vars, Makes};
+ghost use Rattle.lasso_optimizer.specs.Gradphi.{Gradphi};
 ghost use Rattle.lasso_optimizer.specs.Opening.{barrierStore, gradientStore, preconditionerStore, newtonStore};
 
 // q1, q2, d1 and d2.
@@ -27,12 +31,27 @@ fn barrier(s: &mut [f64], sh: Sizes, l: Places, t: f64)
     difference_of_squares(s, l.d2, l.q1, l.q2, t, sh.p);
 }
 
-// gradphi and then g1 in the place of xnu, and grad.
-fn gradient(m: &[f64], sh: Sizes, tm: Terms, s: &mut [f64], l: Places, t: f64)
+// gradphi, in the place of xnu: g where the design is stored, so that it is not read again.
+fn gradphi(m: &[f64], sh: Sizes, tm: Terms, s: &mut [f64], l: Places, g: [f64; 64])
     requires { ⌜ Held sh l (now m) (now s) ⌝ }
+    requires { ⌜ Gradphi sh tm (now m) (vars sh (now s)) g ⌝ }
+    ensures { λ _. ⌜ now (s .exit)
+        ≡ put (now (s .entry)) (l .xnu) (transposedOf sh tm (now (m .entry)) (vars sh (now (s .entry))) (part (now (s .entry)) (l .z) (sh .k))) ⌝ }
+{
+    if sh.lazy {
+        transposed(m, sh, tm, s, l, l.z, l.xnu);
+        return;
+    }
+    copy_from(s, l.xnu, &g, 0, sh.p);
+}
+
+// gradphi and then g1 in the place of xnu, and grad.
+fn gradient(m: &[f64], sh: Sizes, tm: Terms, s: &mut [f64], l: Places, t: f64, g: [f64; 64])
+    requires { ⌜ Held sh l (now m) (now s) ⌝ }
+    requires { ⌜ Gradphi sh tm (now m) (vars sh (now s)) g ⌝ }
     ensures { λ _. ⌜ Makes sh (gradientStore sh tm (now (m .entry)) t) (now (s .entry)) (now (s .exit)) ⌝ }
 {
-    transposed(m, sh, tm, s, l, l.z, l.xnu);
+    gradphi(m, sh, tm, s, l, g);
     g1(s, l.xnu, l.q1, l.q2, t, sh.p);
     negated(s, l.grad, l.xnu, sh.p);
     negated_g2(s, l.grad + sh.p, l.q1, l.q2, tm.lambda, t, sh.p);
@@ -46,12 +65,13 @@ fn preconditioner(s: &mut [f64], sh: Sizes, l: Places)
     prs(s, l.prs, l.prb, l.d1, l.d2, sh.p);
 }
 
-// All that the solver reads besides the Gram and its start: the terms of the barrier, the gradient and the preconditioner.
-pub fn newton_terms(m: &[f64], sh: Sizes, tm: Terms, s: &mut [f64], l: Places, t: f64)
+// All that the solver reads besides the Gram and its start: the terms of the barrier, the gradient and the preconditioner. g is what the gap part answered.
+pub fn newton_terms(m: &[f64], sh: Sizes, tm: Terms, s: &mut [f64], l: Places, t: f64, g: [f64; 64])
     requires { ⌜ Held sh l (now m) (now s) ⌝ }
+    requires { ⌜ Gradphi sh tm (now m) (vars sh (now s)) g ⌝ }
     ensures { λ _. ⌜ Makes sh (newtonStore sh tm (now (m .entry)) t) (now (s .entry)) (now (s .exit)) ⌝ }
 {
     barrier(s, sh, l, t);
-    gradient(m, sh, tm, s, l, t);
+    gradient(m, sh, tm, s, l, t, g);
     preconditioner(s, sh, l);
 }

@@ -14,6 +14,7 @@ use settings::Terms;
 ghost use mathlib.Core.Path.{_≡_};
 ghost use Rattle.design.specs.Mode.{Held};
 ghost use Rattle.layout.specs.Slots.{Room, vars, rest};
+ghost use Rattle.duality.specs.Gap.{Known};
 ghost use Rattle.lasso_optimizer.specs.Data.{held};
 ghost use Rattle.lasso_optimizer.specs.Opening.{opens, pcgtolOf};
 ghost use Rattle.lasso_optimizer.specs.Fit.{DidOpen};
@@ -31,7 +32,7 @@ fn pcgtol(s: &[f64], sh: Sizes, l: Places, r: u64, a: Scalars, gap: f64) -> f64
 }
 
 // Opens round r from the scalars that the one before left. Done where the gap over the dual value is below tol; Failed where the solver's tolerance is at or
-// below 0; else Ready. A NaN is neither, so it goes on.
+// below 0; else Ready. A NaN is neither, so it goes on. Where `known`, newz holds the residuals already.
 pub fn open(
     m: &[f64],
     sh: Sizes,
@@ -41,16 +42,19 @@ pub fn open(
     l: Places,
     r: u64,
     a: Scalars,
+    known: bool,
 ) -> Opened
     requires { ⌜ Held sh l (now m) (now s) ⌝ }
+    requires { ⌜ Known sh tm (now m) known (vars sh (now s)) ⌝ }
     ensures { λ o. ⌜ DidOpen sh (rest sh (now (s .entry))) (opens sh tm (now (m .entry)) tol r (held a (vars sh (now (s .entry))))) o (now (s .exit)) ⌝ }
 {
-    let g = gap(m, sh, tm, s, l, a.dual);
+    let g = gap(m, sh, tm, s, l, a.dual, known);
     if g.gap / g.dual < tol {
         return Opened::Done;
     }
     let t = next_t(sh.p, a.s, g.gap, a.t);
-    newton_terms(m, sh, tm, s, l, t);
+    let gradphi = g.gradphi;
+    newton_terms(m, sh, tm, s, l, t, gradphi);
     let pcg = pcgtol(s, sh, l, r, a, g.gap);
     if pcg <= 0.0 {
         return Opened::Failed(Failure::Tolerance);

@@ -8,9 +8,14 @@ use refusal::Checked;
 use refusal::Refusal;
 use refusal::at;
 use refusal::in_size;
+use several::eight;
+use several::put_eight;
 ghost use mathlib.Core.Path.{_≡_};
 ghost use Prim.Native.Nat.{_*_, _≤_};
 ghost use lib.ListN.{length};
+ghost use Rattle.numbers.specs.Ops.{_⊕_};
+ghost use Rattle.arrays.specs.Part.{put, tab};
+ghost use Rattle.arrays.specs.Sums.{_!_};
 ghost use Rattle.prediction.specs.Predict.{Outcome.outcome, checkedOf, valuesOf, predictedOf, predictOf};
 
 pub enum Predicted {
@@ -59,6 +64,32 @@ fn values(n: usize, p: usize, x: &[f64], w: &[f64], b: f64) -> Checked
     Checked::Fine
 }
 
+// Each product plus the intercept, a NaN with its one pattern.
+fn finish(t: [f64; 8], b: f64) -> [f64; 8]
+    ensures { λ r. ⌜ r ≡ tab (λ k. t ! k ⊕ b) 8 ⌝ }
+{
+    let mut r = [0.0; 8];
+    for k in 0..8 {
+        r[k] = canonical(t[k] + b);
+    }
+    r
+}
+
+// The first 8 * e predictions, eight at a time: one from each run of e rows. So eight sums go side by side, of which none waits for another.
+fn runs(e: usize, p: usize, x: &[f64], w: &[f64], b: f64, out: &mut [f64])
+    requires { ⌜ 8 * e * p ≤ length (now x) ⌝ }
+    requires { ⌜ length (now w) ≡ p ⌝ }
+    requires { ⌜ 8 * e ≤ length (now out) ⌝ }
+    ensures { λ _. ⌜ now (out .exit) ≡ put (now (out .entry)) 0 (predictedOf (8 * e) p (now (x .entry)) (now (w .entry)) b) ⌝ }
+{
+    let apart = e * p;
+    for i in 0..e {
+        let t = eight(x, i * p, apart, w, 0, p);
+        put_eight(out, i, e, finish(t, b));
+    }
+}
+
+// Eight rows at a time, then the remaining ones.
 fn rows(n: usize, p: usize, x: &[f64], w: &[f64], b: f64, out: &mut [f64])
     requires { ⌜ length (now x) ≡ n * p ⌝ }
     requires { ⌜ length (now w) ≡ p ⌝ }
@@ -67,7 +98,9 @@ fn rows(n: usize, p: usize, x: &[f64], w: &[f64], b: f64, out: &mut [f64])
     requires { ⌜ p ≤ 64 ⌝ }
     ensures { λ _. ⌜ now (out .exit) ≡ predictedOf n p (now (x .entry)) (now (w .entry)) b ⌝ }
 {
-    for i in 0..n {
+    let e = n / 8;
+    runs(e, p, x, w, b, out);
+    for i in 8 * e..n {
         out[i] = canonical(product(x, i * p, w, 0, p) + b);
     }
 }

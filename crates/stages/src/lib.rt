@@ -23,6 +23,7 @@ ghost use Prim.Native.Nat.{_≤_};
 ghost use Rattle.pause.specs.Paused.{opening, solving, searching, step};
 ghost use Rattle.design.specs.Mode.{Held};
 ghost use Rattle.layout.specs.Slots.{Room, vars, rest};
+ghost use Rattle.duality.specs.Gap.{Known};
 ghost use Rattle.lasso_optimizer.specs.Data.{held};
 ghost use Rattle.lasso_optimizer.specs.Fit.{parts};
 ghost use Rattle.lasso_optimizer.specs.Solving.{aimBy};
@@ -61,6 +62,7 @@ fn scalars_of(o: Tried) -> Scalars
 }
 
 // Opens round r, which is counted however it ends: the solver is ready for its first round, or the fit has converged or failed.
+// Where `known`, newz holds the residuals already.
 pub fn opening_step(
     m: &[f64],
     sh: Sizes,
@@ -72,8 +74,10 @@ pub fn opening_step(
     r: u64,
     c: Counts,
     a: Scalars,
+    known: bool,
 ) -> Stepped
     requires { ⌜ Held sh l (now m) (now s) ⌝ }
+    requires { ⌜ Known sh tm (now m) known (vars sh (now s)) ⌝ }
     requires { ⌜ OpeningIn limit r (countsOf c) ⌝ }
     requires { ⌜ limit ≤ 1000 ⌝ }
     ensures { λ o. ⌜ Did sh (rest sh (now (s .entry))) (step (parts sh tm tol (now (m .entry))) limit
@@ -87,7 +91,7 @@ pub fn opening_step(
         solver: b,
         trials: t,
     };
-    match open(m, sh, tm, tol, s, l, r, a) {
+    match open(m, sh, tm, tol, s, l, r, a, known) {
         Opened::Ready(w) => Stepped::Going(Paused {
             stage: Stage::Solving(1),
             round: r,

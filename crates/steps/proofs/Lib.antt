@@ -1,2 +1,3 @@
 pub mod ByStage
+pub mod Known
 pub mod Loop

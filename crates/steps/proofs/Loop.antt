@@ -2,6 +2,7 @@
 use Prim.Native.Nat.{ℕ, zero, suc, _-_, _<_, _≤_}
 use native.Mathlib.Omega.{arith}
 use mathlib.Core.Path.{_≡_, refl, ap, sym, _∙_}
+use mathlib.Core.Bool.{Bool}
 use mathlib.Core.List.{List}
 use lib.Dec.{lit<, lit≤}
 use lib.ListN.{length}
@@ -28,6 +29,8 @@ use Rattle.stages.specs.declared.Stepped.the-variants.{Going, Over}
 use Rattle.records.specs.Record.{countsOf, pausedOf, stateOf, stateAt, Sane, SaneAt}
 use Rattle.stages.specs.Stage.{Did, answer, leftData}
 use Rattle.records.proofs.Back.{state-back, paused-back, store-back}
+use Rattle.steps.specs.Known.{KnownAt, searchedOf}
+use Rattle.steps.proofs.Known.{KnownAfter, step-known}
 
 sub-one : (n : ℕ) → suc n - 1 ≡ n
 sub-one n = omega arith
@@ -90,22 +93,25 @@ module _ (sh : Sizes) (tm : Terms) (tol : Float) (x : List Float) (M : ℕ) wher
     abbrev whole : Progress (End Failure Data) (State Data)
     whole = run (step (parts sh tm tol x) M) budget (stateOf rec₀ (vars sh m₀))
 
-    -- `left` steps from here are the whole budget's from the start
-    pub record Running (left : ℕ) (cur : Paused) (m : List Float) : Type 0 where
+    -- `left` steps from here are the whole budget's from the start; where `known` says so, the next opening finds its residuals in newz
+    pub record Running (left : ℕ) (known : Bool) (cur : Paused) (m : List Float) : Type 0 where
       pub same : run (step (parts sh tm tol x) M) left (stateOf cur (vars sh m)) ≡ whole
       pub excess : rest sh m ≡ rest sh m₀
       pub long : length m ≡ length m₀
       pub sane : Sane M cur
+      pub newz : KnownAt (cur .stage) sh tm x known (vars sh m)
 
-    pub went-on : (left : ℕ) (cur nxt : Paused) (m m′ : List Float) → 0 < left → Running left cur m → length m′ ≡ length m →
-        {o : Stepped} → o ≡ Going nxt → Did sh (rest sh m) (step (parts sh tm tol x) M (stateOf cur (vars sh m))) o m′ → Running (left - 1) nxt m′
+    pub went-on : (left : ℕ) {b b′ : Bool} (cur nxt : Paused) (m m′ : List Float) → 0 < left → Running left b cur m → length m′ ≡ length m →
+        {o : Stepped} → o ≡ Going nxt → b′ ≡ searchedOf (cur .stage) → Did sh (rest sh m) (step (parts sh tm tol x) M (stateOf cur (vars sh m))) o m′ →
+        Running (left - 1) b′ nxt m′
     unfolding answer leftData
-    went-on left cur nxt m m′ h g l {o} q d = go (one (stateOf cur (vars sh m))) refl
+    went-on left {b′ = b′} cur nxt m m′ h g l {o} q t d = go (one (stateOf cur (vars sh m))) refl
       where
-        go : (p : Progress (End Failure Data) (State Data)) → one (stateOf cur (vars sh m)) ≡ p → Running (left - 1) nxt m′
+        go : (p : Progress (End Failure Data) (State Data)) → one (stateOf cur (vars sh m)) ≡ p → Running (left - 1) b′ nxt m′
         go (over e) y = absurd (not-over e nxt (sym q ∙ rw y at (d .is)))
         go (going z) y =
             let after : Sane M (pausedOf z) = rw y at (step-sane cur (vars sh m) (g .sane)) in
+            let known : KnownAfter sh tm x tol M (cur .stage) z = rw y at (step-known sh tm x tol M cur (vars sh m)) in
             let is : Going nxt ≡ Going (pausedOf z) = sym q ∙ rw y at (d .is) in
             let p : nxt ≡ pausedOf z = cc in
             let k : Has sh (rest sh m) (storeOf (dataOf z)) m′ = rw y at (d .left) in
@@ -114,9 +120,10 @@ module _ (sh : Sizes) (tm : Terms) (tol : Float) (x : List Float) (M : ℕ) wher
               excess = rest-of sh k ∙ g .excess;
               long = l ∙ g .long;
               sane = rw p after;
+              newz = rw (p, vars-of sh k, t) known;
             }
 
-    pub stopped : (left : ℕ) (cur : Paused) (m m′ : List Float) → 0 < left → Running left cur m → {o : Stepped} {w : How} {c : CountsE} → o ≡ Over w c →
+    pub stopped : (left : ℕ) {b : Bool} (cur : Paused) (m m′ : List Float) → 0 < left → Running left b cur m → {o : Stepped} {w : How} {c : CountsE} → o ≡ Over w c →
         Did sh (rest sh m) (step (parts sh tm tol x) M (stateOf cur (vars sh m))) o m′ → Did sh (rest sh m₀) whole o m′
     unfolding answer
     stopped left cur m m′ h g {o} q d = go (one (stateOf cur (vars sh m))) refl
@@ -125,7 +132,7 @@ module _ (sh : Sizes) (tm : Terms) (tol : Float) (x : List Float) (M : ℕ) wher
         go (over e) y = rw (sym (g .same) ∙ (run-over left (stateOf cur (vars sh m)) e y h ∙ sym y), sym (g .excess)) d
         go (going z) y = absurd (going-not-over (sym (rw y at (d .is)) ∙ q))
 
-    pub spent : (left : ℕ) (cur : Paused) (m : List Float) → left ≤ 0 → Running left cur m → {l : Places} → Room sh l m → Did sh (rest sh m₀) whole (Going cur) m
+    pub spent : (left : ℕ) {b : Bool} (cur : Paused) (m : List Float) → left ≤ 0 → Running left b cur m → {l : Places} → Room sh l m → Did sh (rest sh m₀) whole (Going cur) m
     unfolding run answer leftData words
     spent zero cur m h g l =
         rw (sym (g .same), sym (g .excess))

@@ -2,8 +2,9 @@
 -- The measure: nr - i, which falls by four. Assumes nothing.
 use mathlib.Core.Path.{_≡_}
 use Prim.Native.Nat.{ℕ, _+_, _-_, _*_, _≤_}
-use native.Mathlib.Nat.{add-mul, mul-le-mul-right}
+use native.Mathlib.Nat.{add-mul, one-mul, mul-le-mul-right}
 use native.Mathlib.Omega.{arith}
+use Rattle.several.specs.Together.{addedOf}
 use Rattle.arrays.proofs.Turns.{Made}
 use Rattle.gram_panels.specs.Panels.{sumAt}
 use Rattle.gram_panels.proofs.Sums.{sums-none, sums-more}
@@ -33,26 +34,28 @@ mul-q c =
     let h = rows-le (at .loop .i) 4 (g .nr) (g .cc) (omega arith) in
     omega arith
 
-add-four-rows : tie.Need-add-four-rows Inv-loop μ-loop
-add-four-rows c =
+add-add-four : tie.Need-add-add-four Inv-loop μ-loop
+add-add-four c =
     let at = c .before .before in
     let g = at .before .before .args in
     let h = rows-le (at .loop .i) 4 (g .nr) (g .cc) (omega arith) in
     omega arith
 
-add-four-rows-2 : tie.Need-add-four-rows-2 Inv-loop μ-loop
-add-four-rows-2 c =
+add-add-four-2 : tie.Need-add-add-four-2 Inv-loop μ-loop
+add-add-four-2 c =
     let at = c .before .before in
     let g = at .before .before .args in
     let h = rows-le (at .loop .i) 4 (g .nr) (g .cc) (omega arith) in
     omega arith
 
-four-rows-requires : tie.Need-four-rows-requires Inv-loop μ-loop
-four-rows-requires c κs =
+add-four-requires : tie.Need-add-four-requires Inv-loop μ-loop
+add-four-requires c κs =
     let at = c .before .before in
     let g = at .before .before .args in
-    let h = rows-le (at .loop .i) 4 (g .nr) (g .cc) (omega arith) in
-    record { room = omega arith; width = omega arith; left = omega arith; fits = omega arith; right = omega arith }
+    let h = rows-le (at .loop .i) 4 (g .nr) (g .cc) (omega arith) in (
+      omega arith,
+      record { room = omega arith; last = omega arith; clear = λ k l u v. absurd (omega (arith, rows-le k 1 4 (g .cc) (omega arith), one-mul (g .cc))) },
+    )
 
 add-i : tie.Need-add-i Inv-loop μ-loop
 add-i c = omega arith
@@ -61,9 +64,10 @@ loop-less : tie.Need-loop-less Inv-loop μ-loop
 loop-less c = omega arith
 
 loop-again : tie.Need-loop-again Inv-loop μ-loop
+unfolding addedOf sumAt
 loop-again c =
     let at = c .before .before .before .before .before in
-    (omega arith, sums-more (at .before .before .pre) (at .loop .i) 4 (omega arith) (at .loop .inv .1) (c .before .before .four-rows .ensures))
+    (omega arith, sums-more (at .before .before .pre) (at .loop .i) 4 (omega arith) (at .loop .inv .1) (c .before .before .add-four .ensures))
 
 mul-q-2 : tie.Need-mul-q-2 Inv-loop μ-loop
 mul-q-2 c =
@@ -116,9 +120,9 @@ entry-row-spec =
     loop-holds
     sub-loop
     mul-q
-    add-four-rows
-    add-four-rows-2
-    four-rows-requires
+    add-add-four
+    add-add-four-2
+    add-four-requires
     add-i
     loop-less
     loop-again

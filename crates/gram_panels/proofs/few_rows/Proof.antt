@@ -1,6 +1,6 @@
 -- `gram_panels::few_rows` meets its contract. The invariant: the w sums are those after i rows of the panels, and all else is as it was.
 -- The measure: nr - i. Assumes nothing.
-use mathlib.Core.Path.{_≡_, refl, sym, ap, _∙_}
+use mathlib.Core.Path.{_≡_, sym, ap, _∙_}
 use mathlib.Core.List.{List}
 use Prim.Native.Nat.{ℕ, _-_, _≤_}
 use native.Mathlib.Nat.{add-zero, zero-mul}
@@ -75,7 +75,7 @@ add-scaled-requires c κs =
     let at = c .before .before .before in
     let g = at .before .before .args in
     let h = row-le (at .loop .i) (g .nr) (g .cc) (omega arith) in
-    record { room = omega arith; first = omega arith; second = omega arith; clear = λ _ _. refl; clear2 = λ l k. absurd (omega arith) }
+    record { room = omega arith; first = omega arith; second = omega arith; clear = λ l k. omega arith; clear2 = λ l k. omega arith }
 
 add-i : tie.Need-add-i Inv-loop μ-loop
 add-i c = omega arith

@@ -3,8 +3,9 @@
 use mathlib.Core.Path.{refl}
 use Prim.Native.Nat.{_+_, _-_, _*_}
 use native.Mathlib.Omega.{arith}
+use Rattle.gram_panels.specs.Panels.{low}
 use Rattle.gram_panels.proofs.Mats.{row-le, Striped, striped-none, striped-more, striped-all, beyond-rows}
-use Rattle.lazy_gram.specs.Nest.{low, raisedAt}
+use Rattle.lazy_gram.specs.Nest.{raisedAt}
 use Rattle.lazy_gram.proofs.augment.Statement.{statement}
 use Rattle.lazy_gram.proofs.augment.Tie as tie
 

@@ -5,8 +5,9 @@ use Prim.Native.Nat.{_-_}
 use native.Mathlib.Omega.{arith}
 use Rattle.arrays.specs.Sums.{plus0}
 use Rattle.arrays.specs.Vectors.{fillOf}
+use Rattle.gram_panels.specs.Panels.{low}
 use Rattle.gram_panels.proofs.Mats.{row-le, Striped, striped-none, striped-more, striped-all}
-use Rattle.lazy_gram.specs.Nest.{low, nones}
+use Rattle.lazy_gram.specs.Nest.{nones}
 use Rattle.lazy_gram.proofs.clear_low.Statement.{statement}
 use Rattle.lazy_gram.proofs.clear_low.Tie as tie
 

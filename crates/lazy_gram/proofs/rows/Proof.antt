@@ -5,9 +5,9 @@ use Prim.Native.Nat.{_+_, _-_, _*_, _≤_}
 use native.Mathlib.Nat.{mul-le-mul-right}
 use native.Mathlib.Omega.{arith}
 use lib.ListN.{length}
-use Rattle.gram_panels.specs.Panels.{mat, cell}
+use Rattle.gram_panels.specs.Panels.{mat, cell, low}
 use Rattle.gram_panels.proofs.Mats.{length-mat}
-use Rattle.lazy_gram.specs.Nest.{Like, low, entry}
+use Rattle.lazy_gram.specs.Nest.{Like, entry}
 use Rattle.lazy_gram.proofs.Nest.{rows-start, rows-lie, rows-turn}
 use Rattle.lazy_gram.proofs.rows.Statement.{statement}
 use Rattle.lazy_gram.proofs.rows.Tie as tie

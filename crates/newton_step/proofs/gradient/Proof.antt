@@ -16,10 +16,10 @@ len : (c : tie.After-negated) → length (c .negated .last .0) ≡ length (from 
 len c =
     let c₂ = c .before .before .before .before in
     let c₁ = c₂ .before .before .before .before in
-    c .negated .kept .0 ∙ c₂ .g1 .kept .0 ∙ c₁ .transposed .kept .1 .1 .1 .0
+    c .negated .kept .0 ∙ c₂ .g1 .kept .0 ∙ c₁ .gradphi .kept .1 .1 .1 .0
 
-transposed-requires : tie.Need-transposed-requires
-transposed-requires c κs = (c .before .before .before .pre, (omega arith, (omega arith, omega arith)))
+gradphi-requires : tie.Need-gradphi-requires
+gradphi-requires c κs = c .before .before .before .pre
 
 g1-requires : tie.Need-g1-requires
 g1-requires c κs = omega arith
@@ -30,7 +30,7 @@ negated-requires c κs = omega arith
 add-negated-g2 : tie.Need-add-negated-g2
 add-negated-g2 c =
     let a = from (c .before .before .before .before .before) in
-    let r = a .pre .room in
+    let r = a .pre .0 .room in
     let l = r .laid .at-grad in
     let f = a .good .1 .1 .1 .0 .0 in
     omega arith
@@ -38,7 +38,7 @@ add-negated-g2 c =
 negated-g2-requires : tie.Need-negated-g2-requires
 negated-g2-requires c κs =
     let c₃ = c .before .before .before .before .before in
-    let r = from c₃ .pre .room in
+    let r = from c₃ .pre .0 .room in
     let e = len c₃ in
     omega arith
 
@@ -53,10 +53,10 @@ returns c =
     let c₂ = c₃ .before .before .before .before in
     let c₁ = c₂ .before .before .before .before in
     let a = c₁ .before .before .before .before in
-    gradient-left (a .pre .room .laid) (start (a .args .sh) (a .args .s .now) (a .pre .room .room)) (a .args .tm) (a .args .m .now) (a .args .t)
-    (c₁ .transposed .ensures) (c₂ .g1 .ensures) (c₃ .negated .ensures) (c₄ .negated-g2 .ensures)
+    gradient-left (a .pre .0 .room .laid) (start (a .args .sh) (a .args .s .now) (a .pre .0 .room .room)) (a .args .tm) (a .args .m .now) (a .args .t)
+    (c₁ .gradphi .ensures) (c₂ .g1 .ensures) (c₃ .negated .ensures) (c₄ .negated-g2 .ensures)
 
 pub gradient-spec : {M : Type 1} → statement M
 gradient-spec =
     tie.close
-    (tie.spec transposed-requires g1-requires negated-requires add-negated-g2 negated-g2-requires same-length returns)
+    (tie.spec gradphi-requires g1-requires negated-requires add-negated-g2 negated-g2-requires same-length returns)

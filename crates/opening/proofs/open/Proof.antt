@@ -3,6 +3,7 @@
 use mathlib.Core.Path.{_≡_, _∙_}
 use native.Mathlib.Omega.{arith}
 use lib.ListN.{length}
+use Rattle.layout.proofs.Slots.{vars-of}
 use Rattle.design.proofs.Lengths.{held-on}
 use Rattle.opening.proofs.Returns.{open-done, open-fails, open-ready}
 use Rattle.opening.proofs.open.Statement.{statement}
@@ -13,7 +14,7 @@ abbrev from-gap : tie.After-gap → tie.Start
 from-gap c = c .before .before .before .before
 
 abbrev gap-of : tie.After-newton-terms → tie.After-gap
-gap-of c = c .before .before .before .before .before .before .before
+gap-of c = c .before .before .before .before .before .before .before .before
 
 len-gap : (c : tie.After-gap) → length (c .gap .last .1 .1 .1 .0) ≡ length (from-gap c .args .s .now)
 len-gap c = c .gap .kept .1 .1 .1 .0
@@ -36,18 +37,19 @@ returns c =
 
 next-t-requires : tie.Need-next-t-requires
 next-t-requires c κs =
-    let h = from-gap (c .before .before .before .before) .pre .columns in
+    let h = from-gap (c .before .before .before .before) .pre .0 .columns in
     omega arith
 
 newton-terms-requires : tie.Need-newton-terms-requires
 newton-terms-requires c κs =
-    let g = c .before .before .before .before .before .before in
-    held-on (from-gap g .pre) (len-gap g)
+    let g = c .before .before .before .before .before .before .before in
+    let d = g .gap .ensures in
+    (held-on (from-gap g .pre .0) (len-gap g), rw (vars-of (from-gap g .args .sh) (d .left)) (d .gradphi-is))
 
 pcgtol-requires : tie.Need-pcgtol-requires
 pcgtol-requires c κs =
     let n = c .before .before .before in
-    held-on (from-gap (gap-of n) .pre) (len-newton n) .room
+    held-on (from-gap (gap-of n) .pre .0) (len-newton n) .room
 
 same-length-2 : tie.Need-same-length-2
 same-length-2 c = len-newton (c .before .before .before .before .before)
@@ -59,12 +61,12 @@ returns-2 c =
     let a = from-gap g .args in
     let d = g .gap .ensures in
     open-fails (a .sh) (a .tm) _ (a .tol) (a .r) (a .a) _ (d .gap-is) (d .dual-is) (d .left)
-    (n .before .before .next-t .ensures) (n .newton-terms .ensures) (c .before .pcgtol .ensures) (n .before .before .before .if1 .left) (c .if2 .taken)
+    (n .before .before .before .next-t .ensures) (n .newton-terms .ensures) (c .before .pcgtol .ensures) (n .before .before .before .before .if1 .left) (c .if2 .taken)
 
 begin-requires : tie.Need-begin-requires
 begin-requires c κs =
     let n = c .before .before .before .before .before .before in
-    held-on (from-gap (gap-of n) .pre) (len-newton n) .room
+    held-on (from-gap (gap-of n) .pre .0) (len-newton n) .room
 
 same-length-3 : tie.Need-same-length-3
 same-length-3 c =
@@ -80,7 +82,7 @@ returns-3 c =
     let a = from-gap g .args in
     let d = g .gap .ensures in
     open-ready (a .sh) (a .tm) _ (a .tol) (a .r) (a .a) _ (d .gap-is) (d .dual-is) (d .left)
-    (n .before .before .next-t .ensures) (n .newton-terms .ensures) (x .pcgtol .ensures) (n .before .before .before .if1 .left) (b .before .before .if2 .left) (b .begin .ensures)
+    (n .before .before .before .next-t .ensures) (n .newton-terms .ensures) (x .pcgtol .ensures) (n .before .before .before .before .if1 .left) (b .before .before .if2 .left) (b .begin .ensures)
 
 pub open-spec : {M : Type 1} → statement M
 open-spec =

@@ -9,11 +9,11 @@ use Rattle.stages.proofs.opening_step.Tie as tie
 abbrev from : tie.After-open → tie.Start
 from n = n .before .before .before .before .before .before .before .before
 
-add-t17 : tie.Need-add-t17
-add-t17 c = search needs
+add-t18 : tie.Need-add-t18
+add-t18 c = search needs
 
 open-requires : tie.Need-open-requires
-open-requires c κs = c .before .before .before .before .before .before .before .pre .0
+open-requires c κs = let p = c .before .before .before .before .before .before .before .pre in (p .0, p .1 .0)
 
 enum-known-w : tie.Need-enum-known-w
 enum-known-w c = search needs
@@ -61,7 +61,7 @@ pub opening-step-spec : {M : Type 1} → statement M
 opening-step-spec =
     tie.close
     (tie.spec
-    add-t17
+    add-t18
     open-requires
     enum-known-w
     enum-told

@@ -1,6 +1,6 @@
 -- `steps::one_step` meets its contract. An ended record is none that a step may take. Assumes nothing.
 use borrow.Author.Needs.{needs}
-use Rattle.steps.proofs.ByStage.{by-stage, sane-at}
+use Rattle.steps.proofs.ByStage.{by-stage, sane-at, opening-known}
 use Rattle.steps.proofs.one_step.Statement.{statement}
 use Rattle.steps.proofs.one_step.Tie as tie
 
@@ -10,7 +10,8 @@ enum-told c = search needs
 opening-step-requires : tie.Need-opening-step-requires
 opening-step-requires c κs =
     let s = c .before .before .before .before .before .before .before in
-    (s .pre .0, (sane-at (s .args .rec) (c .before .enum-told .given .1) _ (s .pre .1 .0), s .pre .1 .1))
+    let g = c .before .enum-told .given .1 in
+    (s .pre .0, (opening-known (s .args .rec) g _ _ _ _ _ (s .pre .1 .0), (sane-at (s .args .rec) g _ (s .pre .1 .1 .0), s .pre .1 .1 .1)))
 
 enum-known-stage : tie.Need-enum-known-stage
 enum-known-stage c = search needs
@@ -18,7 +19,7 @@ enum-known-stage c = search needs
 solving-step-requires : tie.Need-solving-step-requires
 solving-step-requires c κs =
     let s = c .before .before .before .before .before .before .before .before in
-    (s .pre .0, (sane-at (s .args .rec) (c .before .before .stage .given .1) _ (s .pre .1 .0), s .pre .1 .1))
+    (s .pre .0, (sane-at (s .args .rec) (c .before .before .stage .given .1) _ (s .pre .1 .1 .0), s .pre .1 .1 .1))
 
 enum-known-stage-2 : tie.Need-enum-known-stage-2
 enum-known-stage-2 c = search needs
@@ -26,7 +27,7 @@ enum-known-stage-2 c = search needs
 searching-step-requires : tie.Need-searching-step-requires
 searching-step-requires c κs =
     let s = c .before .before .before .before .before .before .before .before in
-    (s .pre .0, (sane-at (s .args .rec) (c .before .before .stage2 .given .1) _ (s .pre .1 .0), s .pre .1 .1))
+    (s .pre .0, (sane-at (s .args .rec) (c .before .before .stage2 .given .1) _ (s .pre .1 .1 .0), s .pre .1 .1 .1))
 
 enum-told-2 : tie.Need-enum-told-2
 enum-told-2 c = search needs
@@ -59,7 +60,7 @@ returns-3 c =
     (c .before .before .searching-step .ensures)
 
 returns-4 : tie.Need-returns-4
-returns-4 c = let s = c .before .before .before .before .before .before in absurd (sane-at (s .args .rec) (c .enum-told2 .given .1) _ (s .pre .1 .0))
+returns-4 c = let s = c .before .before .before .before .before .before in absurd (sane-at (s .args .rec) (c .enum-told2 .given .1) _ (s .pre .1 .1 .0))
 
 pub one-step-spec : {M : Type 1} → statement M
 one-step-spec =

@@ -1,27 +1,30 @@
--- `steps::run_steps` meets its contract. The invariant: `left` steps from `cur` give what the budget gives from the first record, and a step may take `cur`.
--- The measure: left. Assumes nothing.
+-- `steps::run_steps` meets its contract. The invariant: `left` steps from `cur` give what the budget gives from the first record, a step may take `cur`, and
+-- where `known` says so, newz holds what an opening of `cur` would make. The measure: left. Assumes nothing.
 use native.Mathlib.Omega.{arith}
 use borrow.Author.Needs.{needs}
 use mathlib.Core.Path.{refl}
 use Rattle.design.proofs.Lengths.{held-on}
+use Rattle.steps.proofs.Known.{unknown}
 use Rattle.steps.proofs.Loop.{Running, went-on, stopped, spent}
 use Rattle.steps.proofs.run_steps.Statement.{statement}
 use Rattle.steps.proofs.run_steps.Tie as tie
 
 abbrev Inv-loop : tie.InvT-loop
-Inv-loop m sh tm tol limit s₀ l budget cur₀ left₀ s cur left = Running sh tm tol m limit budget cur₀ s₀ left cur s
+Inv-loop m sh tm tol limit s₀ l budget cur₀ left₀ known₀ s cur left known = Running sh tm tol m limit budget cur₀ s₀ left known cur s
 
 abbrev μ-loop : tie.MeasureT-loop
-μ-loop m sh tm tol limit s₀ l budget cur₀ left₀ s cur left = left
+μ-loop m sh tm tol limit s₀ l budget cur₀ left₀ known₀ s cur left known = left
 
 loop-holds : tie.Need-loop-holds Inv-loop μ-loop
-loop-holds c = record { same = refl; excess = refl; long = refl; sane = c .before .before .pre .1 .0 }
+loop-holds c =
+    let s = c .before .before in
+    record { same = refl; excess = refl; long = refl; sane = s .pre .1 .0; newz = unknown (s .args .sh) (s .args .tm) _ _ _ }
 
 one-step-requires : tie.Need-one-step-requires Inv-loop μ-loop
 one-step-requires c κs =
     let l = c .before .before in
     let p = l .before .before .before .pre in
-    (held-on (p .0) (l .loop .inv .long), (l .loop .inv .sane, p .1 .1))
+    (held-on (p .0) (l .loop .inv .long), (l .loop .inv .newz, (l .loop .inv .sane, p .1 .1)))
 
 enum-known-o : tie.Need-enum-known-o Inv-loop μ-loop
 enum-known-o c = search needs
@@ -40,19 +43,22 @@ returns c =
     stopped (s .sh) (s .tm) (s .tol) _ (s .limit) (s .budget) (s .rec) _ _ _ _ _ (l .loop-test .taken) (l .before .loop .inv)
     (c .enum-told .given .1) (n .one-step .ensures)
 
+searched-requires : tie.Need-searched-requires Inv-loop μ-loop
+searched-requires c κs = tt
+
 sub-left : tie.Need-sub-left Inv-loop μ-loop
-sub-left c = omega (arith, c .before .before .before .before .before .before .before .loop-test .taken)
+sub-left c = omega (arith, c .before .before .before .before .before .before .before .before .loop-test .taken)
 
 loop-less : tie.Need-loop-less Inv-loop μ-loop
-loop-less c = omega (arith, c .before .before .before .before .before .before .before .loop-test .taken)
+loop-less c = omega (arith, c .before .before .before .before .before .before .before .before .loop-test .taken)
 
 loop-again : tie.Need-loop-again Inv-loop μ-loop
 loop-again c =
-    let n = c .before .before .before .before .before in
+    let n = c .before .before .before .before .before .before in
     let l = n .before .before in
     let s = l .before .before .before .before .args in
     went-on (s .sh) (s .tm) (s .tol) _ (s .limit) (s .budget) (s .rec) _ _ _ _ _ _ (l .loop-test .taken) (l .before .loop .inv)
-    (n .one-step .kept .1 .1 .1 .1 .1 .0) (c .before .o .given .1) (n .one-step .ensures)
+    (n .one-step .kept .1 .1 .1 .1 .1 .0) (c .before .before .o .given .1) (c .searched .ensures) (n .one-step .ensures)
 
 same-length-2 : tie.Need-same-length-2 Inv-loop μ-loop
 same-length-2 c = search needs
@@ -76,6 +82,7 @@ run-steps-spec =
     enum-told
     same-length
     returns
+    searched-requires
     sub-left
     loop-less
     loop-again

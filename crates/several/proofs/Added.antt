@@ -1,0 +1,79 @@
+-- Sums to which the products of one vector after another are added, however many at a time. Assumes nothing.
+use mathlib.Core.Path.{_≡_, refl, sym, ap, _∙_}
+use mathlib.Core.List.{List}
+use Prim.Native.Nat.{ℕ, _+_, _*_, _≤_, _<_}
+use native.Mathlib.Nat.{add-mul}
+use native.Mathlib.Omega.{arith}
+use lib.ListN.{length}
+use lib.Ieee.{Float, nan}
+use Rattle.numbers.specs.Ops.{_⊕_, _⊗_}
+use Rattle.arrays.specs.Part.{part, put, tab}
+use Rattle.arrays.proofs.Part.{tab-ext, getD-tab, getD-part, length-tab, part-put-same}
+use Rattle.arrays.specs.Sums.{_!_}
+use Rattle.arrays.proofs.Folds.{fold-none, fold-turn, fold-ext, fold-on}
+use Rattle.arrays.specs.Vectors.{Clear, zipOf}
+use Rattle.several.specs.Together.{addedOf}
+use Rattle.arrays.proofs.Turns.{Made, made-of, made-again, kept}
+use Rattle.several.proofs.Runs.{but-none, front-all}
+
+-- no vector, and one
+pub added-none : (t : List Float) (out n : ℕ) (s : List Float) (f : ℕ → Float) (r apart : ℕ) → out + n ≤ length t
+    → Made t out n (addedOf t out s f r apart 0) t n
+unfolding addedOf
+added-none t out n s f r apart room =
+    made-of t out n _ t
+    (front-all {i = n} (record { within = omega arith; but = but-none t out n; made = λ j l. sym (fold-none _ _ _) }) (omega arith) room)
+
+pub added-one : (t : List Float) (out n : ℕ) (s : List Float) (x : Float) (r apart : ℕ)
+    → zipOf (λ (a w : Float). a ⊕ x ⊗ w) n (part t out n) (part s r n) ≡ tab (addedOf t out s (λ k. x) r apart 1) n
+unfolding zipOf addedOf
+added-one t out n s x r apart =
+    tab-ext _ _ n (λ j l.
+    let e : r + 0 * apart + j ≡ r + j = omega arith in
+    fold-turn _ _ _ 0 _ _ (getD-part t out n j nan l ∙ sym (fold-none _ _ _)) (rw e (ap (λ (w : Float). x ⊗ w) (getD-part s r n j nan l))))
+
+-- `count` vectors more, where those of s are as they were in s₀
+pub added-on : {t₀ : List Float} (s₀ s : List Float) {out n : ℕ} (f : ℕ → Float) (r apart i count : ℕ) {t : List Float} → Made t₀ out n (addedOf t₀ out s₀ f r apart i) t n
+    → out + n ≤ length t₀ → ((k j : ℕ) → k < count → j < n → s ! (r + (i + k) * apart + j) ≡ s₀ ! (r + (i + k) * apart + j)) → (g : ℕ → Float)
+    → ((k : ℕ) → k < count → g k ≡ f (i + k)) → (at : ℕ) → at ≡ r + i * apart → (u : List Float)
+    → u ≡ put t out (tab (addedOf t out s g at apart count) n) → Made t₀ out n (addedOf t₀ out s₀ f r apart (i + count)) u n
+unfolding addedOf
+added-on {t₀} s₀ s {out} {n} f r apart i count {t} d room same g is at e u q =
+    made-again d _ u (q ∙ ap (put t out) (tab-ext _ _ n (λ j l.
+    let begun : t ! (out + j) ≡ addedOf t₀ out s₀ f r apart i j =
+    sym (getD-part t out n j nan l)
+    ∙ ap (λ (xs : List Float). part xs out n ! j) (d .is) ∙ ap (λ (xs : List Float). xs ! j) (part-put-same t₀ out (tab _ n) n (length-tab _ n) room)
+    ∙ getD-tab _ n j nan l in
+    let kept : (k : ℕ) → k < count → s ! (at + k * apart + j) ≡ s₀ ! (r + (i + k) * apart + j) =
+    λ k u.
+    let place : at + k * apart ≡ r + (i + k) * apart = omega (arith, add-mul i k apart) in
+    rw place (same k j u l) in
+    rw begun (fold-ext _ _ _ _ count (λ k u. rw (is k u, kept k u)) ∙ fold-on _ _ _ i count))))
+
+-- numbers that were read before
+pub added-read : (t : List Float) (out : ℕ) (s xs : List Float) (f g : ℕ → Float) (r apart count n : ℕ) → xs ≡ tab g count → ((k : ℕ) → k < count → g k ≡ f k)
+    → tab (addedOf t out s (λ k. xs ! k) r apart count) n ≡ tab (addedOf t out s f r apart count) n
+unfolding addedOf
+added-read t out s xs f g r apart count n e is =
+    tab-ext _ _ n (λ j l.
+    fold-ext _ _ _ _ count (λ k h. ap (λ (x : Float). x ⊗ s ! (r + k * apart + j)) (ap (λ (ys : List Float). ys ! k) e ∙ getD-tab g count k nan h ∙ is k h)))
+
+-- what sum j reads while the sums before it are written is what was there before the loop
+module _ {s₀ : List Float} {out n : ℕ} {f : ℕ → Float} {s : List Float} {j : ℕ} (m : Made s₀ out n f s j) (h : j < n) where
+  pub still : (a : ℕ) → Clear out a n → s ! (a + j) ≡ s₀ ! (a + j)
+  still a c = kept m a h c ∙ getD-part s₀ a n j nan h
+
+  pub added-kept : (t t₀ : List Float) (at : ℕ) → t ! (at + j) ≡ t₀ ! (at + j) → (g : ℕ → Float) (r apart count : ℕ)
+      → ((k : ℕ) → k < count → Clear out (r + k * apart) n) → addedOf t at s g r apart count j ≡ addedOf t₀ at s₀ g r apart count j
+  unfolding addedOf
+  added-kept t t₀ at e g r apart count c = rw e (fold-ext _ _ _ _ count (λ k l. ap (λ (v : Float). g k ⊗ v) (still (r + k * apart) (c k l))))
+
+-- a loop over the vectors: none, and one more
+pub added-first : (t : List Float) (out : ℕ) (s : List Float) (f : ℕ → Float) (r apart j : ℕ) → t ! (out + j) ≡ addedOf t out s f r apart 0 j
+unfolding addedOf
+added-first t out s f r apart j = sym (fold-none _ _ _)
+
+pub added-more : (t : List Float) (out : ℕ) (s : List Float) (f : ℕ → Float) (r apart k j : ℕ) (x : Float) → x ≡ addedOf t out s f r apart k j
+    → x ⊕ f k ⊗ s ! (r + k * apart + j) ≡ addedOf t out s f r apart (k + 1) j
+unfolding addedOf
+added-more t out s f r apart k j x e = fold-turn _ _ _ k x _ e refl

@@ -1,0 +1,4 @@
+pub mod Several
+pub mod Runs
+pub mod Added
+pub mod Rows
