@@ -64,7 +64,8 @@ pub fn transposed_both(
     requires { ⌜ sh .p ≤ length (now t) ⌝ }
     ensures { λ _. ⌜ now (s .exit)
         ≡ put (now (s .entry)) out (transposedOf sh tm (now (m .entry)) (vars sh (now (s .entry))) (part (now (s .entry)) v (sh .k))) ⌝ }
-    ensures { λ _. ⌜ part (now (t .exit)) 0 (sh .p) ≡ transposedOf sh tm (now (m .entry)) (vars sh (now (s .entry))) (part (now (s .entry)) w (sh .k)) ⌝ }
+    ensures { λ _. ⌜ now (t .exit)
+        ≡ put (now (t .entry)) 0 (transposedOf sh tm (now (m .entry)) (vars sh (now (s .entry))) (part (now (s .entry)) w (sh .k))) ⌝ }
 {
     matrix_columns::columns_both(s, l.design, sh.stored, sh.p, v, out, w, t);
 }

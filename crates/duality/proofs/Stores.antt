@@ -2,11 +2,15 @@
 use mathlib.Core.Path.{_≡_, refl, sym, ap, _∙_, fun-ext, subst}
 use mathlib.Core.Bool.{Bool, true, false, cond, true≢false}
 use mathlib.Core.List.{List}
+use Prim.Native.Nat.{_≤_}
+use native.Mathlib.Omega.{arith}
+use lib.ListN.{length}
 use lib.Dec.{eqb}
 use lib.Ieee.{Float, binary64, lt}
 use Rattle.numbers.specs.Ops.{_⊖_, _⊗_, _⊘_}
 use Rattle.numbers.specs.Constants.{two}
 use Rattle.arrays.specs.Part.{part, put}
+use Rattle.arrays.proofs.Part.{part-put-same}
 use Rattle.arrays.specs.Sums.{normInfOf}
 use Rattle.arrays.specs.Vectors.{mapOf, zipOf}
 use Rattle.arrays.proofs.Lengths.{length-map, length-zip}
@@ -85,12 +89,13 @@ module _ {sh : Sizes} {l : Places} {m s : List Float} (h : Held sh l m s) (t : T
         let w = h .room .laid in
         then sh doubled XNU (λ u. transposedOf sh t m u (u NU)) (length-transposed sh t m _ _) (rw (w .at-xnu, w .at-nu) at q₃)
 
-    pub gradphi-made : (g : List Float) → part g 0 (sh .p) ≡ transposedOf sh t m (vars sh s₂) (part s₂ (l .z) (sh .k))
+    pub gradphi-made : (g₀ g : List Float) → sh .p ≤ length g₀ → g ≡ put g₀ 0 (transposedOf sh t m (vars sh s₂) (part s₂ (l .z) (sh .k)))
         → Gradphi sh t m (residualStore sh t m (vars sh s)) g
     unfolding residualStore startStore
-    gradphi-made g q =
+    gradphi-made g₀ g room q =
         let w = h .room .laid in
-        after-xnu sh t m _ _ g (rw (w .at-z) at q ∙ got sh doubled (λ u. transposedOf sh t m u (u Z)))
+        let first = ap (λ (x : List Float). part x 0 (sh .p)) q ∙ part-put-same g₀ 0 _ (sh .p) (length-transposed sh t m _ _) (omega arith) in
+        after-xnu sh t m _ _ g (rw (w .at-z) at first ∙ got sh doubled (λ u. transposedOf sh t m u (u Z)))
 
 module _ {sh : Sizes} {l : Places} {s : List Float} (h : Room sh l s) (t : Terms) (most : Float) where
   -- the code has the factor on the left

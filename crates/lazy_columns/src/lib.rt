@@ -3,7 +3,8 @@ use layout::Places;
 use lazy_normalization::normalise;
 use settings::Terms;
 ghost use mathlib.Core.Path.{_≡_};
-ghost use Prim.Native.Nat.{_+_, _≤_};
+ghost use mathlib.Core.Bool.{cond};
+ghost use Prim.Native.Nat.{_+_, _*_, _/_, _≤_};
 ghost use lib.ListN.{length};
 ghost use lib.Ieee.{Float};
 ghost use Rattle.numbers.specs.Ops.{_⊕_, _⊗_};
@@ -38,10 +39,10 @@ pub fn columns(
     augment(s, out, t, v + n, p);
 }
 
-// Adds rows to the p sums at `out`, four at a time, and answers how many: none where a reciprocal is missing.
+// Adds rows to the p sums at `out`, four at a time, and answers how many: all that fours reach, or none where a reciprocal is missing.
 fn add_fours(m: &[f64], n: usize, p: usize, s: &mut [f64], l: Places, v: usize, out: usize) -> usize
     requires { ⌜ Reads (now m) n p (now s) l v (n + p) out p ⌝ }
-    ensures { λ r. ⌜ r ≤ n ⌝ }
+    ensures { λ r. ⌜ r ≡ cond (allThere (part (now (s .entry)) (l .recip) p) p) (4 * (n / 4)) 0 ⌝ }
     ensures { λ r. ⌜ now (s .exit) ≡ put (now (s .entry)) out (lazyAdded r p (now (m .entry)) (part (now (s .entry)) (l .centre) p)
         (part (now (s .entry)) (l .scale) p) (part (now (s .entry)) (l .recip) p) (part (now (s .entry)) v (n + p)) (part (now (s .entry)) out p)) ⌝ }
 {

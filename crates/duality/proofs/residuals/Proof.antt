@@ -50,7 +50,7 @@ returns-2 c =
     let z = c₁ .start-residuals .ensures in
     let nu = c₂ .times .ensures in
     let both = c₃ .transposed-both .ensures in
-    (residuals-left (a .pre .0) (a .args .t) z nu (both .0), gradphi-made (a .pre .0) (a .args .t) z nu _ (both .1))
+    (residuals-left (a .pre .0) (a .args .t) z nu (both .0), gradphi-made (a .pre .0) (a .args .t) z nu _ _ (omega arith) (both .1))
 
 pub residuals-spec : {M : Type 1} → statement M
 residuals-spec =

@@ -3,7 +3,7 @@ use Prim.Native.Nat.{_+_, _-_, _*_, _/_, _≤_}
 use mathlib.Core.Path.{_≡_, sym, _∙_}
 use native.Mathlib.Nat.{add-mul, mul-le-mul-right}
 use native.Mathlib.Omega.{arith}
-use Rattle.arrays.proofs.Scans.{granted}
+use Rattle.arrays.proofs.Scans.{denied, granted}
 use Rattle.arrays.proofs.Turns.{Made, made-all}
 use Rattle.lazy_normalization.specs.Lazy.{lazyAdded}
 use Rattle.lazy_columns.proofs.ColumnSums.{columnSum, columns-none, columns-four, columns-there}
@@ -25,8 +25,10 @@ same-length c = omega arith
 returns : tie.Need-returns Inv-loop μ-loop
 unfolding lazyAdded
 returns c =
-    let g = c .before .before .before .before .before .args in
-    (omega arith, columns-none (g .m .now) (g .s .now) (g .p) (g .l) (g .out) (g .v) (g .n + g .p) (omega arith) .is)
+    let there = c .before in
+    let g = there .before .before .before .before .args in
+    let missing = sym (there .all-there .ensures) ∙ denied _ (c .if1 .taken) in
+    (rw missing, columns-none (g .m .now) (g .s .now) (g .p) (g .l) (g .out) (g .v) (g .n + g .p) (omega arith) .is)
 
 loop-holds : tie.Need-loop-holds Inv-loop μ-loop
 loop-holds c =
@@ -90,7 +92,8 @@ returns-2 c =
     let at = c .before in
     let start = at .before .before .before .before .before .before in
     let e : at .loop .i ≡ start .args .n / 4 = omega arith in
-    (omega arith, rw e at (made-all (at .loop .inv .1) (omega arith)))
+    let all = sym (at .before .before .all-there .ensures) ∙ granted _ (at .before .if1 .left) in
+    (rw all, rw e at (made-all (at .loop .inv .1) (omega arith)))
 
 pub add-fours-spec : {M : Type 1} → statement M
 add-fours-spec =

@@ -1,7 +1,8 @@
 -- `lazy_columns::columns` meets its contract. The invariant: row i begins at `at`, and over whatever b the fours' sums were written to the sums of the first
 -- i rows now are. The measure: n - i. Assumes nothing.
-use Prim.Native.Nat.{_+_, _-_, _*_, _≤_}
+use Prim.Native.Nat.{ℕ, _+_, _-_, _*_, _/_, _≤_}
 use mathlib.Core.Path.{_≡_, refl}
+use mathlib.Core.Bool.{Bool, true, false, cond}
 use mathlib.Core.List.{List}
 use native.Mathlib.Nat.{mul-le-mul-right}
 use native.Mathlib.Omega.{arith}
@@ -9,9 +10,17 @@ use lib.ListN.{length}
 use lib.Ieee.{Float}
 use Rattle.arrays.proofs.Turns.{Made}
 use Rattle.matrices.proofs.Lengths.{row-room, next-row}
+use Rattle.lazy_normalization.specs.Lazy.{allThere}
 use Rattle.lazy_columns.proofs.ColumnSums.{columnSum, columns-from, columns-more, columns-all, columns-end}
 use Rattle.lazy_columns.proofs.columns.Statement.{statement}
 use Rattle.lazy_columns.proofs.columns.Tie as tie
+
+-- whether there are fours or none
+fours-within : (rc : List Float) (p n r : ℕ) → r ≡ cond (allThere rc p) (4 * (n / 4)) 0 → r ≤ n
+fours-within rc p n r = go (allThere rc p) where
+  go : (b : Bool) → r ≡ cond b (4 * (n / 4)) 0 → r ≤ n
+  go true e = omega arith
+  go false e = omega arith
 
 abbrev Inv-loop : tie.InvT-loop
 Inv-loop m n p t s₀ l v out done at₀ i₀ s at i =
@@ -41,10 +50,14 @@ add-fours-requires c κs =
     }
 
 mul-at : tie.Need-mul-at Inv-loop μ-loop
-mul-at c = omega (arith, mul-le-mul-right (c .before .before .before .before .before .before .before .before .before .before .args .p) (c .before .before .add-fours .ensures .0))
+mul-at c =
+    let fours = c .before .before in
+    let g = fours .before .before .before .before .before .before .before .before .args in
+    let h = fours-within _ _ (g .n) _ (fours .add-fours .ensures .0) in
+    omega (arith, mul-le-mul-right (g .p) h)
 
 loop-holds : tie.Need-loop-holds Inv-loop μ-loop
-loop-holds c = (c .before .before .add-fours .ensures .0, omega arith, omega arith, λ b d. d)
+loop-holds c = (fours-within _ _ _ _ (c .before .before .add-fours .ensures .0), omega arith, omega arith, λ b d. d)
 
 add-x : tie.Need-add-x Inv-loop μ-loop
 add-x c = omega arith

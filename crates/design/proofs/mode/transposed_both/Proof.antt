@@ -1,8 +1,7 @@
 -- `design::mode::transposed_both` meets its contract: the places are those of two single products. Assumes nothing.
-use mathlib.Core.Path.{_∙_}
+use mathlib.Core.Path.{ap, _∙_}
 use native.Mathlib.Omega.{arith}
-use Rattle.arrays.proofs.Part.{part-put-same}
-use Rattle.matrices.proofs.Lengths.{length-columns}
+use Rattle.arrays.specs.Part.{put}
 use Rattle.design.proofs.Modes.{stored-downward, stored-product, stored-columns}
 use Rattle.design.proofs.mode.transposed_both.Statement.{statement}
 use Rattle.design.proofs.mode.transposed_both.Tie as tie
@@ -30,7 +29,7 @@ returns c =
     let pre = start .pre in
     let e = both .columns-both .ensures in (
       stored-columns _ _ _ _ (pre .0) _ _ _ _ (pre .1 .0) (e .0),
-      rw (e .1) (part-put-same _ 0 _ (start .args .sh .p) (length-columns _ _ _ _) (omega (arith, pre .1 .1 .1 .1 .1 .1 .1)) ∙ stored-product (pre .0) _ _ (pre .1 .0)),
+      e .1 ∙ ap (put _ 0) (stored-product (pre .0) _ _ (pre .1 .0)),
     )
 
 pub transposed-both-spec : {M : Type 1} → statement M
