@@ -194,6 +194,22 @@ module _ {A : Type 0} where
   unfolding put
   getD-put-below s a xs j d h = sets-other s a xs j d (inr h)
 
+  pub getD-put-tab : (s : List A) (a : ℕ) (f : ℕ → A) (n i : ℕ) (d : A) → a + n ≤ length s → i < n → getD (put s a (tab f n)) (a + i) d ≡ f i
+  getD-put-tab s a f n i d l h =
+      sym (getD-part (put s a (tab f n)) a n i d h) ∙ ap (λ (r : List A). getD r i d) (part-put-same s a (tab f n) n (length-tab f n) l)
+      ∙ getD-tab f n i d h
+
+  -- what is there already, written again
+  pub put-self : (s : List A) (a : ℕ) (f : ℕ → A) (n : ℕ) (d : A) → a + n ≤ length s → ((i : ℕ) → i < n → f i ≡ getD s (a + i) d) → put s a (tab f n) ≡ s
+  put-self s a f n d h e = ext-getD d (put s a (tab f n)) s (length-put s a (tab f n)) (λ i l. go i (decLt i a) (decLt i (a + n))) where
+    go : (i : ℕ) → Dec (i < a) → Dec (i < a + n) → getD (put s a (tab f n)) i d ≡ getD s i d
+    go i (yes l) m = getD-put-above s a (tab f n) i d l
+    go i (no l) (no m) = getD-put-below s a (tab f n) i d (rw length-tab (omega (arith, m)))
+    go i (no l) (yes m) =
+        let q : a + (i - a) ≡ i = omega (arith, l) in
+        let k : i - a < n = omega (arith, l) in
+        subst (λ (j : ℕ). getD (put s a (tab f n)) j d ≡ getD s j d) q (getD-put-tab s a f n (i - a) d h k ∙ e (i - a) k)
+
   -- ---- a part that is the whole, and a put of the whole
 
   pub part-all : (s : List A) (n : ℕ) → length s ≡ n → part s 0 n ≡ s

@@ -11,7 +11,7 @@ use lib.Ieee.{Float, nan}
 use Rattle.numbers.specs.Ops.{_⊕_, _⊗_}
 use Rattle.arrays.specs.Part.{part, put, tab}
 use Rattle.arrays.proofs.Part.{length-tab, length-put, getD-part, put-tab-none, put-tab-more, put-put-same}
-use Rattle.arrays.proofs.Part.{part-put-apart, getD-put-above, getD-put-below, apart-of, apart-fewer, length-part, tab-all}
+use Rattle.arrays.proofs.Part.{part-put-apart, getD-put-above, getD-put-below, apart-of, apart-fewer, length-part, tab-all, put-all}
 use Rattle.arrays.specs.Sums.{_!_, products}
 use Rattle.arrays.proofs.Folds.{fold-turn}
 use Rattle.arrays.specs.Vectors.{Clear}
@@ -69,6 +69,16 @@ module _ {s₀ : List Float} {out n : ℕ} {f : ℕ → Float} {s : List Float} 
   made-self =
       let e : put s out (tab f i) ≡ s = ap (λ (r : List Float). put r out (tab f i)) (m .is) ∙ put-put-same s₀ out (tab f i) (tab f i) (omega arith) ∙ sym (m .is) in
       record { within = m .within; long = refl; is = sym e }
+
+-- an array that is written whole, from its first element on
+pub array-more : {s₀ : List Float} {n : ℕ} {f : ℕ → Float} {s : List Float} {i : ℕ} → Made s₀ 0 n f s i → (x : Float) → i < n → x ≡ f i
+    → Made s₀ 0 n f (set s i x) (i + 1)
+array-more {i = i} m x h e =
+    let q : 0 + i ≡ i = omega arith in
+    rw q at (made-more m x h e)
+
+pub array-all : {s₀ : List Float} {n : ℕ} {f : ℕ → Float} {s : List Float} {i : ℕ} → Made s₀ 0 n f s i → n ≤ i → length s₀ ≡ n → s ≡ tab f n
+array-all {s₀} {n} {f} m h l = made-all m h ∙ put-all s₀ (tab f n) (length-tab f n ∙ sym l)
 
 -- one turn of a loop that makes each element of two, and of one
 pub zip-more : (g : Float → Float → Float) {s₀ : List Float} {out : ℕ} (a b : ℕ) {n : ℕ} {s : List Float} {i : ℕ}

@@ -1,22 +1,22 @@
--- Two vectors of one slice, which loops write side by side or one at a time; and there the columns' sums and sums of squares, row by row, and what is made of
--- them. Assumes nothing.
+-- Two vectors of one slice, which loops write side by side or one at a time; and there the columns' sums and sums of squares, to which rows are added, however
+-- many at a time, and what is made of them. Assumes nothing.
 use mathlib.Core.Path.{_≡_, refl, sym, ap, _∙_}
 use mathlib.Core.List.{List, [], _∷_}
-use Prim.Native.Nat.{ℕ, _+_, _*_, _≤_, _<_}
-use native.Mathlib.Nat.{ne-of-gt}
+use Prim.Native.Nat.{ℕ, _+_, _-_, _*_, _≤_, _<_}
+use native.Mathlib.Nat.{add-mul}
 use native.Mathlib.Omega.{arith}
 use lib.ListN.{length, set, length-set}
-use lib.Seq.{getD-set-other}
 use lib.Ieee.{Float, nan}
 use Rattle.numbers.specs.Ops.{_⊕_, _⊖_, _⊗_, _⊘_}
 use Rattle.numbers.specs.Root.{rootOf}
 use Rattle.arrays.specs.Part.{part, put, tab}
-use Rattle.arrays.proofs.Part.{tab-ext, getD-tab, getD-part, length-tab, length-put, part-put-above, part-put-same, put-put-same, put-comm}
-use Rattle.arrays.proofs.Part.{put-tab-none, put-tab-more, getD-put-above, getD-put-below}
+use Rattle.arrays.proofs.Part.{tab-ext, getD-part, length-tab, length-put, put-put-same, put-comm}
+use Rattle.arrays.proofs.Part.{put-tab-none, put-tab-more, getD-put-above, getD-put-below, getD-put-tab, put-self}
 use Rattle.arrays.specs.Sums.{_!_, sumTo, products, plus0, whole}
-use Rattle.arrays.proofs.Folds.{fold-none, fold-turn}
+use Rattle.arrays.proofs.Folds.{fold-none, fold-turn, fold-ext, fold-on}
 use Rattle.arrays.specs.Vectors.{fillOf, mapOf, zipOf}
 use Rattle.column_moments.specs.Stats.{column, columnMeanOf, varianceOf, deviationOf}
+use Rattle.column_moments.specs.Added.{gathered, itself, square, rowsAdded}
 
 -- s is s₀ with the first n elements of f at a, and behind them those of g at b
 pub record Pair (s₀ : List Float) (a b n : ℕ) (f g : ℕ → Float) (s : List Float) : Type 0 where
@@ -44,17 +44,16 @@ unfolding put
 set-put s i x b ys h = sym (put-comm s i (x ∷ []) b ys (omega arith))
 
 module _ {s₀ : List Float} {a b j : ℕ} {f g : ℕ → Float} {s : List Float} (p : Pair s₀ a b j f g s) (apart : a + j < b) (room : b + j < length s₀) where
+  -- the next of both are as they were
   first-left : s ! (a + j) ≡ s₀ ! (a + j)
   first-left =
       rw (p .is)
       (getD-put-above (put s₀ a (tab f j)) b (tab g j) (a + j) nan apart
       ∙ getD-put-below s₀ a (tab f j) (a + j) nan (omega (arith, length-tab f j)))
 
-  second-left : (x : Float) → set s (a + j) x ! (b + j) ≡ s₀ ! (b + j)
-  second-left x =
-      let l : a + j < b + j = omega arith in
-      getD-set-other s (a + j) (b + j) x nan (ne-of-gt l)
-      ∙ rw (p .is)
+  second-left : s ! (b + j) ≡ s₀ ! (b + j)
+  second-left =
+      rw (p .is)
       (getD-put-below (put s₀ a (tab f j)) b (tab g j) (b + j) nan (omega (arith, length-tab g j))
       ∙ getD-put-below s₀ a (tab f j) (b + j) nan (omega (arith, length-tab f j)))
 
@@ -69,31 +68,16 @@ module _ {s₀ : List Float} {a b j : ℕ} {f g : ℕ → Float} {s : List Float
         ∙ put-tab-more (put s₀ a (tab f (j + 1))) b g j);
   }
 
--- the turn that adds an element of the row at `at` in m, and its square
-pub element-added : {s₀ : List Float} {a b j : ℕ} {s : List Float} (m : List Float) (at cols : ℕ)
-    → Pair s₀ a b j (λ k. part s₀ a cols ! k ⊕ part m at cols ! k) (λ k. part s₀ b cols ! k ⊕ part m at cols ! k ⊗ part m at cols ! k) s
-    → j < cols → a + cols ≤ b → b + cols ≤ length s₀
-    → Pair s₀ a b (j + 1) (λ k. part s₀ a cols ! k ⊕ part m at cols ! k) (λ k. part s₀ b cols ! k ⊕ part m at cols ! k ⊗ part m at cols ! k)
-    (set (set s (a + j) (s ! (a + j) ⊕ m ! (at + j))) (b + j) (set s (a + j) (s ! (a + j) ⊕ m ! (at + j)) ! (b + j) ⊕ m ! (at + j) ⊗ m ! (at + j)))
-element-added {s₀} {a} {b} {j} {s} m at cols p h apart room =
-    let x = s ! (a + j) ⊕ m ! (at + j) in
-    let l : a + j < b = omega arith in
-    let r : b + j < length s₀ = omega arith in
-    let e = getD-part m at cols j nan h in
-    pair-more p l r x (set s (a + j) x ! (b + j) ⊕ m ! (at + j) ⊗ m ! (at + j)) (rw (getD-part s₀ a cols j nan h, e, first-left p l r))
-    (rw (getD-part s₀ b cols j nan h, e, second-left p l r x))
-
--- ---- one of both anew
+-- ---- both written before
 
 module _ {s₀ : List Float} {a b n : ℕ} {f g : ℕ → Float} {s : List Float} (p : Pair s₀ a b n f g s) where
-  first-at : (j : ℕ) → j < n → part s a n ! j ≡ f j
+  first-at : (j : ℕ) → j < n → s ! (a + j) ≡ f j
   first-at j l =
-      rw (p .is, part-put-above (put s₀ a (tab f n)) b (tab g n) a n (p .apart), part-put-same s₀ a (tab f n) n (length-tab f n) (omega arith))
-      (getD-tab f n j nan l)
+      rw (p .is)
+      (getD-put-above (put s₀ a (tab f n)) b (tab g n) (a + j) nan (omega (arith, p .apart)) ∙ getD-put-tab s₀ a f n j nan (omega (arith, p .apart, p .room)) l)
 
-  second-at : (j : ℕ) → j < n → part s b n ! j ≡ g j
-  second-at j l =
-      rw (p .is, part-put-same (put s₀ a (tab f n)) b (tab g n) n (length-tab g n) (rw length-put (p .room))) (getD-tab g n j nan l)
+  second-at : (j : ℕ) → j < n → s ! (b + j) ≡ g j
+  second-at j l = rw (p .is) (getD-put-tab (put s₀ a (tab f n)) b g n j nan (rw length-put (p .room)) l)
 
   first-again : (h : ℕ → Float) (t : List Float) → t ≡ put s a (tab h n) → Pair s₀ a b n h g t
   first-again h t e = record {
@@ -113,23 +97,68 @@ module _ {s₀ : List Float} {a b n : ℕ} {f g : ℕ → Float} {s : List Float
     is = rw (e, p .is) (put-put-same (put s₀ a (tab f n)) b (tab g n) (tab h n) (omega (arith, length-tab g n, length-tab h n)));
   }
 
-module _ {s₀ : List Float} {a b n : ℕ} {f g : ℕ → Float} {s : List Float} (p : Pair s₀ a b n f g s) where
-  both-again : (h k : ℕ → Float) (t : List Float) → t ≡ put (put s a (tab h n)) b (tab k n) → Pair s₀ a b n h k t
-  both-again h k t e = second-again (first-again p h (put s a (tab h n)) refl) k t e
+-- both written a second time
+pair-over : {s₀ : List Float} {a b n : ℕ} {f g h k : ℕ → Float} {s t : List Float} → Pair s₀ a b n f g s → t ≡ put (put s a (tab h n)) b (tab k n)
+    → Pair s₀ a b n h k t
+pair-over {a = a} {n = n} {h = h} {k} {s} {t} p e = second-again (first-again p h (put s a (tab h n)) refl) k t e
 
-  -- both written a second time, and as they stand
-  pub pair-over : {h k : ℕ → Float} {t : List Float} → Pair s a b n h k t → Pair s₀ a b n h k t
-  pair-over {h} {k} {t} q = both-again h k t (q .is)
+-- ---- rows added to the sums
 
-  pub pair-self : Pair s a b n f g s
-  pair-self = record {
-    apart = p .apart;
-    room = omega arith;
-    long = refl;
-    is = p .is ∙ sym (both-again f g (put (put s a (tab f n)) b (tab g n)) refl .is);
-  }
+-- the sums at a and b with `count` rows added
+abbrev pub Sums : List Float → ℕ → ℕ → List Float → ℕ → ℕ → ℕ → List Float → Type 0
+Sums s₀ a b m at cols count s = Pair s₀ a b cols (gathered itself s₀ a m at cols count) (gathered square s₀ b m at cols count) s
 
--- ---- the columns' sums over the first i rows
+-- a loop over the rows of one column: none, and one more
+pub gathered-none : (f : Float → Float) (s : List Float) (out : ℕ) (m : List Float) (at cols j : ℕ) → s ! (out + j) ≡ gathered f s out m at cols 0 j
+unfolding gathered
+gathered-none f s out m at cols j = sym (fold-none _ _ _)
+
+pub gathered-more : (f : Float → Float) (s : List Float) (out : ℕ) (m : List Float) (at cols k j : ℕ) (t x : Float) → t ≡ gathered f s out m at cols k j
+    → x ≡ f (m ! (at + k * cols + j)) → t ⊕ x ≡ gathered f s out m at cols (k + 1) j
+unfolding gathered
+gathered-more f s out m at cols k j t x e ex = fold-turn _ _ _ k t x e ex
+
+pub gathered-one : (f : Float → Float) (s : List Float) (out : ℕ) (m : List Float) (at cols j : ℕ) → s ! (out + j) ⊕ f (m ! (at + j)) ≡ gathered f s out m at cols 1 j
+gathered-one f s out m at cols j =
+    let same : at + j ≡ at + 0 * cols + j = omega arith in
+    gathered-more f s out m at cols 0 j _ _ (gathered-none f s out m at cols j) (ap (λ (r : ℕ). f (m ! r)) same)
+
+-- a turn of a loop over the columns
+pub column-added : {s₀ : List Float} {a b j : ℕ} {s : List Float} (m : List Float) (at cols count : ℕ)
+    → Pair s₀ a b j (gathered itself s₀ a m at cols count) (gathered square s₀ b m at cols count) s → a + j < b → b + j < length s₀ → {x y : Float}
+    → x ≡ gathered itself s a m at cols count j → y ≡ gathered square s b m at cols count j
+    → Pair s₀ a b (j + 1) (gathered itself s₀ a m at cols count) (gathered square s₀ b m at cols count) (set (set s (a + j) x) (b + j) y)
+unfolding gathered
+column-added m at cols count p apart room {x} {y} ex ey =
+    pair-more p apart room x y (rw (first-left p apart room) at ex) (rw (second-left p apart room) at ey)
+
+-- all columns
+pub sums-of : {s₀ : List Float} {a b : ℕ} (m : List Float) (at cols count : ℕ) → a + cols ≤ b → b + cols ≤ length s₀ → (s : List Float)
+    → s ≡ rowsAdded s₀ a b m at cols count → Sums s₀ a b m at cols count s
+unfolding rowsAdded
+sums-of m at cols count apart room s e = pair-of apart room _ s refl e
+
+-- a loop over the rows: none, and `count` more
+pub sums-none : (s : List Float) (a b : ℕ) (m : List Float) (at cols : ℕ) → a + cols ≤ b → b + cols ≤ length s → Sums s a b m at cols 0 s
+unfolding gathered
+sums-none s a b m at cols apart room =
+    pair-of apart room s s (sym (put-self s a _ cols nan (omega arith) (λ j l. fold-none _ _ _))) (sym (put-self s b _ cols nan room (λ j l. fold-none _ _ _)))
+
+pub sums-on : {s₀ : List Float} {a b : ℕ} (m : List Float) (at cols i count : ℕ) {s : List Float} → Sums s₀ a b m at cols i s → (t : List Float) (place : ℕ)
+    → place ≡ at + i * cols → t ≡ rowsAdded s a b m place cols count → Sums s₀ a b m at cols (i + count) t
+unfolding gathered rowsAdded
+sums-on {s₀} {a} {b} m at cols i count {s} p t place e q =
+    pair-over p (q ∙ ap (λ (r : List Float). put (put s a r) b (tab (gathered square s b m place cols count) cols)) (tab-ext _ _ cols (λ j l. on itself a j (first-at p j l)))
+    ∙ ap (put (put s a (tab (gathered itself s₀ a m at cols (i + count)) cols)) b) (tab-ext _ _ cols (λ j l. on square b j (second-at p j l)))) where
+      on : (f : Float → Float) (out j : ℕ) → s ! (out + j) ≡ gathered f s₀ out m at cols i j
+          → gathered f s out m place cols count j ≡ gathered f s₀ out m at cols (i + count) j
+      on f out j begun =
+          rw begun (fold-ext _ _ _ _ count (λ k l.
+          let same : place + k * cols + j ≡ at + (i + k) * cols + j = omega (arith, add-mul i k cols) in
+          ap (λ (r : ℕ). f (m ! r)) same)
+          ∙ fold-on _ _ _ i count)
+
+-- ---- the columns' sums over all rows
 
 abbrev pub sums : List Float → ℕ → ℕ → ℕ → Float
 sums m cols i j = sumTo plus0 (column m cols j) i
@@ -137,32 +166,24 @@ sums m cols i j = sumTo plus0 (column m cols j) i
 abbrev pub squares : List Float → ℕ → ℕ → ℕ → Float
 squares m cols i j = products plus0 (column m cols j) (column m cols j) i
 
--- of no rows
-pub cleared : {s₀ : List Float} {a b cols : ℕ} (m : List Float) → a + cols ≤ b → b + cols ≤ length s₀ → (t s : List Float)
-    → t ≡ put s₀ a (fillOf plus0 cols) → s ≡ put t b (fillOf plus0 cols) → Pair s₀ a b cols (sums m cols 0) (squares m cols 0) s
-unfolding fillOf
-cleared {s₀} {a} {b} {cols} m apart room t s e1 e2 =
-    pair-of apart room t s (e1 ∙ ap (put s₀ a) (tab-ext _ _ cols (λ j l. sym (fold-none _ _ _))))
-    (e2 ∙ ap (put t b) (tab-ext _ _ cols (λ j l. sym (fold-none _ _ _))))
-
-module _ {s₀ : List Float} {a b : ℕ} (m : List Float) (cols i at : ℕ) (e : at ≡ i * cols) {s : List Float}
-    (p : Pair s₀ a b cols (sums m cols i) (squares m cols i) s) where
-  row : (j : ℕ) → j < cols → part m at cols ! j ≡ column m cols j i
-  row j l = rw e (getD-part m (i * cols) cols j nan l)
-
-  -- a row more is added to both
-  pub row-added : (t : List Float)
-      → t ≡ put (put s a (zipOf (λ (v x : Float). v ⊕ x) cols (part s a cols) (part m at cols))) b
-      (zipOf (λ (v x : Float). v ⊕ x ⊗ x) cols (part s b cols) (part m at cols))
-      → Pair s₀ a b cols (sums m cols (i + 1)) (squares m cols (i + 1)) t
-  unfolding zipOf
-  row-added t et =
-      both-again p (sums m cols (i + 1)) (squares m cols (i + 1)) t
-      (et
-      ∙ ap (λ (r : List Float). put (put s a r) b (zipOf (λ (v x : Float). v ⊕ x ⊗ x) cols (part s b cols) (part m at cols)))
-      (tab-ext _ _ cols (λ j l. fold-turn _ _ _ i _ _ (first-at p j l) (row j l)))
-      ∙ ap (put (put s a (tab (sums m cols (i + 1)) cols)) b)
-      (tab-ext _ _ cols (λ j l. fold-turn _ _ _ i _ _ (second-at p j l) (ap (λ (x : Float). x ⊗ x) (row j l)))))
+-- over sums of +0: the first n rows, and the others
+pub summed : {s₀ : List Float} {a b cols : ℕ} (m : List Float) (rows n : ℕ) → n ≤ rows → a + cols ≤ b → b + cols ≤ length s₀ → (s₁ s₂ s₃ s₄ : List Float)
+    → s₁ ≡ put s₀ a (fillOf plus0 cols) → s₂ ≡ put s₁ b (fillOf plus0 cols) → s₃ ≡ rowsAdded s₂ a b m 0 cols n → s₄ ≡ rowsAdded s₃ a b m (n * cols) cols (rows - n)
+    → Pair s₀ a b cols (sums m cols rows) (squares m cols rows) s₄
+unfolding fillOf gathered
+summed {s₀} {a} {b} {cols} m rows n h apart room s₁ s₂ s₃ s₄ e1 e2 e3 e4 =
+    let p : Pair s₀ a b cols (λ k. plus0) (λ k. plus0) s₂ = pair-of apart room s₁ s₂ e1 e2 in
+    let first = sums-of m 0 cols n apart (omega (arith, p .long)) s₃ e3 in
+    let all = sums-on m 0 cols n (rows - n) first s₄ (n * cols) (omega arith) e4 in
+    let e : n + (rows - n) ≡ rows = omega arith in
+    pair-over p (rw e at (all .is)
+    ∙ ap (λ (r : List Float). put (put s₂ a r) b (tab (gathered square s₂ b m 0 cols rows) cols)) (tab-ext _ _ cols (λ j l. from-none itself a j (first-at p j l)))
+    ∙ ap (put (put s₂ a (tab (sums m cols rows) cols)) b) (tab-ext _ _ cols (λ j l. from-none square b j (second-at p j l)))) where
+      from-none : (f : Float → Float) (out j : ℕ) → s₂ ! (out + j) ≡ plus0 → gathered f s₂ out m 0 cols rows j ≡ sumTo plus0 (λ i. f (column m cols j i)) rows
+      from-none f out j begun =
+          rw begun (fold-ext _ _ _ _ rows (λ k l.
+          let same : 0 + k * cols + j ≡ k * cols + j = omega arith in
+          ap (λ (r : ℕ). f (m ! r)) same))
 
 -- ---- what is made of them
 
@@ -171,7 +192,8 @@ module _ {s₀ : List Float} {a b : ℕ} (m : List Float) (rows cols : ℕ) (d :
   means-made : (t : List Float) → t ≡ put s a (mapOf (λ (v : Float). v ⊘ d) cols (part s a cols))
       → Pair s₀ a b cols (columnMeanOf m rows cols) (squares m cols rows) t
   unfolding mapOf columnMeanOf
-  means-made t et = first-again p (columnMeanOf m rows cols) t (et ∙ ap (put s a) (tab-ext _ _ cols (λ j l. rw (e, first-at p j l))))
+  means-made t et =
+      first-again p (columnMeanOf m rows cols) t (et ∙ ap (put s a) (tab-ext _ _ cols (λ j l. rw (e, getD-part s a cols j nan l, first-at p j l))))
 
   pub moments-made : (t u : List Float) → t ≡ put s a (mapOf (λ (v : Float). v ⊘ d) cols (part s a cols))
       → u ≡ put t b (zipOf (λ (v mu : Float). rootOf (v ⊘ d ⊖ mu ⊗ mu)) cols (part t b cols) (part t a cols))
@@ -179,4 +201,6 @@ module _ {s₀ : List Float} {a b : ℕ} (m : List Float) (rows cols : ℕ) (d :
   unfolding zipOf columnMeanOf varianceOf deviationOf
   moments-made t u et eu =
       let q = means-made t et in
-      second-again q (deviationOf m rows cols) u (eu ∙ ap (put t b) (tab-ext _ _ cols (λ j l. rw (e, first-at q j l, second-at q j l))))
+      second-again q (deviationOf m rows cols) u
+      (eu ∙ ap (put t b) (tab-ext _ _ cols (λ j l.
+      rw (e, getD-part t a cols j nan l, getD-part t b cols j nan l, first-at q j l, second-at q j l))))

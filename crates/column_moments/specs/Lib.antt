@@ -1,1 +1,2 @@
 pub mod Stats
+pub mod Added

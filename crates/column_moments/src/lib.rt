@@ -5,14 +5,15 @@ use numbers::powers::Exponent;
 use numbers::powers::power;
 use numbers::square_root::root;
 ghost use mathlib.Core.Path.{_≡_};
-ghost use Prim.Native.Nat.{_+_, _≤_};
+ghost use Prim.Native.Nat.{_+_, _*_, _≤_};
 ghost use lib.ListN.{length};
 ghost use lib.Ieee.{Float};
-ghost use Rattle.numbers.specs.Ops.{_⊕_, _⊖_, _⊗_, _⊘_};
+ghost use Rattle.numbers.specs.Ops.{_⊖_, _⊗_, _⊘_};
 ghost use Rattle.numbers.specs.Root.{rootOf};
 ghost use Rattle.arrays.specs.Part.{part, put, tab};
 ghost use Rattle.arrays.specs.Vectors.{mapOf, zipOf, Two};
 ghost use Rattle.column_moments.specs.Stats.{columnMeanOf, deviationOf, Moments};
+ghost use Rattle.column_moments.specs.Added.{rowsAdded, Adds};
 
 // The columns' means and deviations, in place of their sums and sums of squares.
 pub fn moments(m: &[f64], rows: usize, cols: usize, s: &mut [f64], means: usize, deviations: usize)
@@ -22,31 +23,72 @@ pub fn moments(m: &[f64], rows: usize, cols: usize, s: &mut [f64], means: usize,
 {
     fill(s, means, cols, 0.0);
     fill(s, deviations, cols, 0.0);
-    let mut at = 0usize;
-    let mut i = 0usize;
-    while i < rows {
-        add_row(m, at, s, means, deviations, cols);
-        at += cols;
-        i += 1;
-    }
+    let q = rows / 4;
+    let n = 4 * q;
+    add_fours(m, q, s, means, deviations, cols);
+    add_rows(m, n * cols, rows - n, s, means, deviations, cols);
     let d = float_of(rows);
     finish_means(s, means, d, cols);
     finish_deviations(s, deviations, means, d, cols);
 }
 
-// The row that starts at `at`, added to the sums, and its squares to the sums of squares, in one loop.
+// The first 4 * q rows added to the sums, and their squares to the sums of squares.
+fn add_fours(m: &[f64], q: usize, s: &mut [f64], sums: usize, squares: usize, cols: usize)
+    requires { ⌜ Adds (now m) 0 (4 * q) cols (now s) sums squares ⌝ }
+    ensures { λ _. ⌜ now (s .exit) ≡ rowsAdded (now (s .entry)) sums squares (now (m .entry)) 0 cols (4 * q) ⌝ }
+{
+    for i in 0..q {
+        add_four(m, 4 * i * cols, s, sums, squares, cols);
+    }
+}
+
+// The same of four rows from `at` on: both sums of a column are read and written once for the four.
+fn add_four(m: &[f64], at: usize, s: &mut [f64], sums: usize, squares: usize, cols: usize)
+    requires { ⌜ Adds (now m) at 4 cols (now s) sums squares ⌝ }
+    ensures { λ _. ⌜ now (s .exit) ≡ rowsAdded (now (s .entry)) sums squares (now (m .entry)) at cols 4 ⌝ }
+{
+    for j in 0..cols {
+        let mut t = s[sums + j];
+        let mut u = s[squares + j];
+        for k in 0..4 {
+            let x = m[at + k * cols + j];
+            t = t + x;
+            u = u + x * x;
+        }
+        s[sums + j] = t;
+        s[squares + j] = u;
+    }
+}
+
+// The same of the rows that are left, one at a time.
+fn add_rows(
+    m: &[f64],
+    at: usize,
+    left: usize,
+    s: &mut [f64],
+    sums: usize,
+    squares: usize,
+    cols: usize,
+)
+    requires { ⌜ Adds (now m) at left cols (now s) sums squares ⌝ }
+    ensures { λ _. ⌜ now (s .exit) ≡ rowsAdded (now (s .entry)) sums squares (now (m .entry)) at cols left ⌝ }
+{
+    for i in 0..left {
+        add_row(m, at + i * cols, s, sums, squares, cols);
+    }
+}
+
+// The same of one row.
 fn add_row(m: &[f64], at: usize, s: &mut [f64], sums: usize, squares: usize, cols: usize)
-    requires { ⌜ at + cols ≤ length (now m) ⌝ }
-    requires { ⌜ sums + cols ≤ squares ⌝ }
-    requires { ⌜ squares + cols ≤ length (now s) ⌝ }
-    ensures { λ _. ⌜ now (s .exit)
-        ≡ put (put (now (s .entry)) sums (zipOf (λ (v x : Float). v ⊕ x) cols (part (now (s .entry)) sums cols) (part (now (m .entry)) at cols)))
-        squares (zipOf (λ (v x : Float). v ⊕ x ⊗ x) cols (part (now (s .entry)) squares cols) (part (now (m .entry)) at cols)) ⌝ }
+    requires { ⌜ Adds (now m) at 1 cols (now s) sums squares ⌝ }
+    ensures { λ _. ⌜ now (s .exit) ≡ rowsAdded (now (s .entry)) sums squares (now (m .entry)) at cols 1 ⌝ }
 {
     for j in 0..cols {
         let x = m[at + j];
-        s[sums + j] = s[sums + j] + x;
-        s[squares + j] = s[squares + j] + x * x;
+        let t = s[sums + j] + x;
+        let u = s[squares + j] + x * x;
+        s[sums + j] = t;
+        s[squares + j] = u;
     }
 }
 

@@ -1,4 +1,3 @@
 pub mod Gram
 pub mod Lengths
 mod Grids
-mod Modes

@@ -1,4 +1,3 @@
 pub mod Statistics
 pub mod Eager
 pub mod Rows
-pub mod Mode

@@ -1,4 +1,3 @@
-// What a start makes of matrix and targets: statistics, the stored design, the centred targets; and products with the design, by mode.
+// What a start makes of matrix and targets: statistics, the stored design, the centred targets.
 pub mod eager;
-pub mod mode;
 pub mod statistics;

@@ -22,11 +22,11 @@ use Rattle.layout.specs.Store.{upd}
 use Rattle.layout.specs.Slots.{Slot, num, Store, _⟨_≔_⟩, Has, Laid, Room, vars, rest, off, words}
 use Rattle.layout.proofs.Slots.{start, then, next, got}
 use Rattle.layout.specs.Slots.{Slot.W, Slot.XNU, Slot.Y, Slot.Z, Slot.NU, Slot.NEWZ}
-use Rattle.design.specs.Mode.{matvecOf, transposedOf, Held}
+use Rattle.design_products.specs.Mode.{matvecOf, transposedOf, Held}
 use Rattle.lasso_optimizer.specs.Opening.{residualStore, shrunkStore, gapStore, primalOf, dualOf, gapOf}
 use Rattle.lasso_optimizer.specs.Gradphi.{Gradphi}
 use Rattle.duality.specs.Gap.{DidGap, Known, startStore}
-use Rattle.design.proofs.Lengths.{length-matvec, length-transposed}
+use Rattle.design_products.proofs.Lengths.{length-matvec, length-transposed}
 
 -- where newz is known, a copy of it is what residualStore begins with
 known-start : (sh : Sizes) (t : Terms) (m : List Float) (v : Store) {b : Bool} → Known sh t m b v → b ≡ true → startStore sh t m v ≡ v ⟨ Z ≔ (λ u. u NEWZ) ⟩

@@ -9,7 +9,7 @@ use Rattle.settings.specs.declared.Terms.{Terms}
 use Rattle.layout.specs.declared.Sizes.{Sizes}
 use Rattle.layout.specs.Slots.{Store, Has, _⟨_≔_⟩}
 use Rattle.layout.specs.Slots.{Slot.W, Slot.Y, Slot.Z, Slot.NEWZ}
-use Rattle.design.specs.Mode.{matvecOf}
+use Rattle.design_products.specs.Mode.{matvecOf}
 use Rattle.lasso_optimizer.specs.Opening.{gapStore, gapOf, dualOf}
 use Rattle.lasso_optimizer.specs.Gradphi.{Gradphi}
 use Rattle.duality.specs.declared.Values.{Values}

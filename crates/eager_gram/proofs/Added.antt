@@ -6,12 +6,28 @@ use native.Mathlib.Nat.{add-mul}
 use native.Mathlib.Omega.{arith}
 use lib.ListN.{length}
 use lib.Ieee.{Float}
+use Rattle.arrays.specs.Part.{put, tab}
 use Rattle.arrays.specs.Sums.{_!_}
 use Rattle.arrays.proofs.Folds.{fold-none, fold-ext, fold-on}
+use Rattle.several.specs.Several.{addedOf}
 use Rattle.matrices.proofs.Lengths.{row-room}
 use Rattle.gram_panels.specs.Panels.{mat, low, carry}
-use Rattle.gram_panels.proofs.Mats.{length-mat, mat-beyond, mat-in, mat-self, mat-ext, mat-mat}
+use Rattle.gram_panels.proofs.Mats.{length-mat, mat-beyond, mat-in, mat-self, mat-ext, mat-mat, Striped, striped-more, beyond-rows}
 use Rattle.eager_gram.specs.Added.{Added}
+
+-- a row of sums to which the products of `count` rows are added: it, and the rows, are as they were; f has what is read of column r
+pub row-more : {s₀ : List Float} {g p at count : ℕ} {s : List Float} {r : ℕ} → Added s₀ g p at count → r < p → Striped s₀ g p low (carry s₀ g p at at p count) p s r
+    → (f : ℕ → Float) → ((k : ℕ) → k < count → f k ≡ s ! (at + r + k * p)) → (t : List Float)
+    → t ≡ put s (g + r * p) (tab (addedOf s (g + r * p) s f at p count) (r + 1)) → Striped s₀ g p low (carry s₀ g p at at p count) p t (r + 1)
+unfolding addedOf carry
+row-more {s₀} {g} {p} {at} {count} {s} {r} pre h w f is t e =
+    let room = row-room r p p h in
+    let same : (q : ℕ) → g + r * p ≤ q → s ! q ≡ s₀ ! q = λ q l. beyond-rows w q (λ z m. omega arith) l in
+    striped-more w (r + 1) _ t h refl
+    (λ c l.
+    rw (same (g + r * p + c) (omega arith)) (fold-ext _ _ _ _ count (λ k m.
+    rw (is k m, same (at + r + k * p) (omega arith), same (at + k * p + c) (omega arith)))))
+    e
 
 -- i of n rows from `at` are added to the lower triangle at g, and all else is as it was in s₀
 pub record Summed (s₀ : List Float) (g p at n : ℕ) (s : List Float) (i : ℕ) : Type 0 where
@@ -21,7 +37,7 @@ pub record Summed (s₀ : List Float) (g p at n : ℕ) (s : List Float) (i : ℕ
 
 module _ {s₀ : List Float} {g p at n : ℕ} (pre : Added s₀ g p at n) where
   pub summed-none : Summed s₀ g p at n s₀ 0
-  unfolding carry
+  unfolding addedOf carry
   summed-none = record {
     within = omega arith;
     long = refl;
@@ -34,19 +50,16 @@ module _ {s₀ : List Float} {g p at n : ℕ} (pre : Added s₀ g p at n) where
     entry r c h l =
         rw (w .is) (mat-in s₀ g p low (carry s₀ g p at at p i) p r c (λ z m. omega arith) (omega (arith, row-room r p p h)) h l)
 
-    row : (k c : ℕ) → s ! (at + i * p + k * p + c) ≡ s₀ ! (at + (i + k) * p + c)
-    row k c =
-        let e : at + i * p + k * p + c ≡ at + (i + k) * p + c = omega (arith, add-mul i k p) in
-        rw (e, w .is)
-        (mat-beyond s₀ g p low (carry s₀ g p at at p i) p (at + (i + k) * p + c) (λ a l. omega (arith, row-room a p p l)))
+    above : (q : ℕ) → at ≤ q → s ! q ≡ s₀ ! q
+    above q h = rw (w .is) (mat-beyond s₀ g p low (carry s₀ g p at at p i) p q (λ a l. omega (arith, row-room a p p l)))
 
     more : (k r c : ℕ) → r < p → c < low r → carry s g p (at + i * p) (at + i * p) p k r c ≡ carry s₀ g p at at p (i + k) r c
-    unfolding carry
+    unfolding addedOf carry
     more k r c h l =
         rw (entry r c h l) (fold-ext _ _ _ _ k (λ j m.
-        let a = row j r in
-        let b = row j c in
-        rw (a, b))
+        let a : at + i * p + r + j * p ≡ at + r + (i + j) * p = omega (arith, add-mul i j p) in
+        let b : at + i * p + j * p + c ≡ at + (i + j) * p + c = omega (arith, add-mul i j p) in
+        rw (a, b, above (at + r + (i + j) * p) (omega arith), above (at + (i + j) * p + c) (omega arith)))
         ∙ fold-on _ _ _ i k)
 
     -- k rows more

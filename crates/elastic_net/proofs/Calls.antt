@@ -14,8 +14,8 @@ use Rattle.layout.specs.declared.Places.{Places}
 use Rattle.layout.specs.Slots.{Laid, words}
 use Rattle.layout.specs.Need.{sizesOf, Small}
 use Rattle.refusal.proofs.Scanning.{opposed}
-use Rattle.design.specs.Mode.{Held}
-use Rattle.design.proofs.Lengths.{held-on}
+use Rattle.design_products.specs.Mode.{Held}
+use Rattle.design_products.proofs.Lengths.{held-on}
 use Rattle.checks.specs.Checks.{Accepted}
 use Rattle.checks.proofs.Laws.{SizesAre, sizes-known, accepted-small, accepted-room}
 use Rattle.beginning.specs.Start.{Begins}

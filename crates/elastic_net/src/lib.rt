@@ -37,7 +37,7 @@ ghost use Rattle.pause.specs.Paused.{call};
 ghost use Rattle.settings.specs.Settings.{termsOf};
 ghost use Rattle.layout.specs.Slots.{Room, vars, rest};
 ghost use Rattle.layout.specs.Need.{sizesOf, Small};
-ghost use Rattle.design.specs.Mode.{Held};
+ghost use Rattle.design_products.specs.Mode.{Held};
 ghost use Rattle.lasso_optimizer.specs.Fit.{parts};
 ghost use Rattle.records.specs.Record.{stateOf};
 ghost use Rattle.stages.specs.Stage.{Did};

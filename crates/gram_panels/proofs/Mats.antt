@@ -1,36 +1,26 @@
 -- Laws of `mat`, rows written at a stride: its elements, and how the rows of several join. Assumes nothing.
-use mathlib.Core.Path.{_≡_, refl, sym, ap, _∙_, subst}
+use mathlib.Core.Path.{_≡_, refl, sym, ap, _∙_}
 use mathlib.Core.Logic.{_⊎_, inl, inr, ⊎-elim}
 use mathlib.Core.List.{List, [], _∷_, _++_, append-assoc, append-nil}
-use Prim.Native.Nat.{ℕ, zero, suc, _+_, _-_, _*_, _≤_, _<_}
-use native.Mathlib.Nat.{add-zero, add-suc, suc-mul, add-mul, mul-le-mul-right, not-suc-le-zero}
+use Prim.Native.Nat.{ℕ, zero, suc, _+_, _*_, _≤_, _<_}
+use native.Mathlib.Nat.{add-zero, add-suc, add-mul, not-suc-le-zero}
 use native.Mathlib.Numerals.{add-one}
 use native.Mathlib.Decide.{decLt}
 use native.Mathlib.Omega.{arith}
 use lib.ListN.{length}
-use lib.Seq.{ext-getD}
 use lib.Ieee.{Float, nan}
 use Rattle.arrays.specs.Part.{put, tab}
-use Rattle.arrays.proofs.Part.{length-put, length-tab, part-put-same, getD-part, getD-tab, getD-put-above, getD-put-below}
+use Rattle.arrays.proofs.Part.{length-put, length-tab, getD-put-above, getD-put-below, getD-put-tab, put-self}
 use Rattle.arrays.proofs.Part.{put-append, put-comm, put-put-same, put-none, tab-ext}
 use Rattle.arrays.specs.Sums.{_!_}
+use Rattle.matrices.proofs.Lengths.{row-room}
 use Rattle.gram_panels.specs.Panels.{mat}
-
--- row a of n rows of p lies within them
-pub row-le : (a n p : ℕ) → a < n → a * p + p ≤ n * p
-row-le a n p h = rw (suc-mul a p) at (mul-le-mul-right p h)
 
 -- where every row ends, if none has more than k
 pub ends : (at p k : ℕ) (w : ℕ → ℕ) (n q : ℕ) → ((a : ℕ) → a < n → w a ≤ k) → at + n * p + k ≤ q + p → (a : ℕ) → a < n → at + a * p + w a ≤ q
-ends at p k w n q hw h a l = omega (arith, hw a l, row-le a n p l)
+ends at p k w n q hw h a l = omega (arith, hw a l, row-room a n p l)
 
 -- ---- a put of a table
-
-pub getD-put-tab : (s : List Float) (a : ℕ) (f : ℕ → Float) (n i : ℕ) → a + n ≤ length s → i < n → put s a (tab f n) ! (a + i) ≡ f i
-getD-put-tab s a f n i l h =
-    sym (getD-part (put s a (tab f n)) a n i nan h)
-    ∙ ap (λ (r : List Float). r ! i) (part-put-same s a (tab f n) n (length-tab f n) l)
-    ∙ getD-tab f n i nan h
 
 tab-add : (f : ℕ → Float) (k n : ℕ) → tab f k ++ tab (λ b. f (k + b)) n ≡ tab f (k + n)
 unfolding tab
@@ -42,17 +32,6 @@ pub put-tab-tab : (s : List Float) (a k : ℕ) (f : ℕ → Float) (n : ℕ) →
 put-tab-tab s a k f n =
     ap (λ (i : ℕ). put (put s a (tab f k)) (a + i) (tab (λ b. f (k + b)) n)) (sym (length-tab f k))
     ∙ put-append s a (tab f k) (tab (λ b. f (k + b)) n) ∙ ap (put s a) (tab-add f k n)
-
--- what is there already, written again
-pub put-self : (s : List Float) (a : ℕ) (f : ℕ → Float) (n : ℕ) → a + n ≤ length s → ((b : ℕ) → b < n → f b ≡ s ! (a + b)) → put s a (tab f n) ≡ s
-put-self s a f n h e = ext-getD nan (put s a (tab f n)) s (length-put s a (tab f n)) (λ i l. go i (decLt i a) (decLt i (a + n))) where
-  go : (i : ℕ) → Dec (i < a) → Dec (i < a + n) → put s a (tab f n) ! i ≡ s ! i
-  go i (yes l) m = getD-put-above s a (tab f n) i nan l
-  go i (no l) (no m) = getD-put-below s a (tab f n) i nan (rw length-tab (omega (arith, m)))
-  go i (no l) (yes m) =
-      let q : a + (i - a) ≡ i = omega (arith, l) in
-      let k : i - a < n = omega (arith, l) in
-      subst (λ (j : ℕ). put s a (tab f n) ! j ≡ s ! j) q (getD-put-tab s a f n (i - a) h k ∙ e (i - a) k)
 
 -- ---- lengths, and elements
 
@@ -82,8 +61,8 @@ module _ (s : List Float) (at p : ℕ) (w : ℕ → ℕ) (f : ℕ → ℕ → Fl
   pub mat-gap : (n a b : ℕ) → ((i : ℕ) → i < n → w i ≤ p) → w a ≤ b → b < p → mat s at p w f n ! (at + a * p + b) ≡ s ! (at + a * p + b)
   mat-gap n a b hw hb hp = mat-out n (at + a * p + b) (λ i m. go i m (decLt i a) (decLt a i)) where
     go : (i : ℕ) → i < n → Dec (i < a) → Dec (a < i) → (at + a * p + b < at + i * p) ⊎ (at + i * p + w i ≤ at + a * p + b)
-    go i m (yes l) k = inr (omega (arith, hw i m, row-le i a p l))
-    go i m (no l) (yes k) = inl (omega (arith, row-le a i p k))
+    go i m (yes l) k = inr (omega (arith, hw i m, row-room i a p l))
+    go i m (no l) (yes k) = inl (omega (arith, row-room a i p k))
     go i m (no l) (no k) =
         let e : i ≡ a = omega (arith, l, k) in
         inr (rw e (omega arith))
@@ -95,10 +74,10 @@ module _ (s : List Float) (at p : ℕ) (w : ℕ → ℕ) (f : ℕ → ℕ → Fl
     go : (a < n → mat s at p w f n ! (at + a * p + b) ≡ f a b) → Dec (a < n)
         → put (mat s at p w f n) (at + n * p) (tab (f n) (w n)) ! (at + a * p + b) ≡ f a b
     go ih (yes l) =
-        getD-put-above (mat s at p w f n) (at + n * p) (tab (f n) (w n)) (at + a * p + b) nan (omega (arith, hw a ha, row-le a n p l)) ∙ ih l
+        getD-put-above (mat s at p w f n) (at + n * p) (tab (f n) (w n)) (at + a * p + b) nan (omega (arith, hw a ha, row-room a n p l)) ∙ ih l
     go ih (no l) =
         let e : a ≡ n = omega (arith, l) in
-        rw e (getD-put-tab (mat s at p w f n) (at + n * p) (f n) (w n) b (rw (length-mat, ← e) hl) (rw (← e) hb))
+        rw e (getD-put-tab (mat s at p w f n) (at + n * p) (f n) (w n) b nan (rw (length-mat, ← e) hl) (rw (← e) hb))
 
 -- ---- a loop that writes a row at a time
 
@@ -145,7 +124,7 @@ unfolding mat
 mat-self s at p w f zero hl e = refl
 mat-self s at p w f (suc n) hl e =
     ap (λ (r : List Float). put r (at + n * p) (tab (f n) (w n))) (mat-self s at p w f n (λ a l. hl a (omega arith)) (λ a b l m. e a b (omega arith) m))
-    ∙ put-self s (at + n * p) (f n) (w n) (hl n (omega arith)) (λ b m. e n b (omega arith) m)
+    ∙ put-self s (at + n * p) (f n) (w n) nan (hl n (omega arith)) (λ b m. e n b (omega arith) m)
 
 pub mat-ext : (s : List Float) (at p : ℕ) (w v : ℕ → ℕ) (f g : ℕ → ℕ → Float) (n : ℕ) → ((a : ℕ) → a < n → w a ≡ v a)
     → ((a b : ℕ) → a < n → b < w a → f a b ≡ g a b) → mat s at p w f n ≡ mat s at p v g n
@@ -207,7 +186,7 @@ mat-wide s at p k v f (suc n) h =
     let q = at + n * p in
     let e : at + k + n * p ≡ at + n * p + k = omega arith in
     let hn : (a : ℕ) → a < n → k + v a ≤ p = λ a m. h a (omega arith) in
-    let hq : (a : ℕ) → a < n → at + k + a * p + v a ≤ q = λ a m. omega (arith, hn a m, row-le a n p m) in
+    let hq : (a : ℕ) → a < n → at + k + a * p + v a ≤ q = λ a m. omega (arith, hn a m, row-room a n p m) in
     let last = tab (λ b. f n (k + b)) (v n) in
     ap (λ (r : List Float). put r (at + k + n * p) last) (mat-put S (at + k) p v (λ a b. f a (k + b)) q (tab (f n) k) n hq)
     ∙ ap (λ (r : List Float). put (put r q (tab (f n) k)) (at + k + n * p) last) (mat-wide s at p k v f n hn)

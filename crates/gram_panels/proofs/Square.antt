@@ -12,7 +12,8 @@ use Rattle.arrays.specs.Sums.{_!_}
 use Rattle.matrices.specs.Grid.{grid}
 use Rattle.matrices.proofs.Grid.{length-grid}
 use Rattle.gram_panels.specs.Panels.{mat, same, low, right-of, fromBelow}
-use Rattle.gram_panels.proofs.Mats.{row-le, put-tab-tab, mat-in, mat-ext, mat-put}
+use Rattle.matrices.proofs.Lengths.{row-room}
+use Rattle.gram_panels.proofs.Mats.{put-tab-tab, mat-in, mat-ext, mat-put}
 
 -- the lower triangle and the upper are the square
 pub square : (s : List Float) (ga p : ℕ) (f : ℕ → ℕ → Float) (n : ℕ) → n ≤ p
@@ -25,7 +26,7 @@ square s ga p f (suc n) h =
     let q = ga + n * p in
     let last = tab (U n) (right-of p n) in
     let T = mat s ga p (same p) f n in
-    let hq : (a : ℕ) → a < n → ga + 1 + a * (p + 1) + right-of p a ≤ q = λ a m. omega (arith, row-le a n p m, mul-add a p 1, mul-one a) in
+    let hq : (a : ℕ) → a < n → ga + 1 + a * (p + 1) + right-of p a ≤ q = λ a m. omega (arith, row-room a n p m, mul-add a p 1, mul-one a) in
     let e : ga + 1 + n * (p + 1) ≡ q + (n + 1) = omega (arith, mul-add n p 1, mul-one n) in
     let e2 : n + 1 + right-of p n ≡ p = omega arith in
     ap (λ (r : List Float). put r (ga + 1 + n * (p + 1)) last) (mat-put S (ga + 1) (p + 1) (right-of p) U q (tab (f n) (n + 1)) n hq)
@@ -54,6 +55,6 @@ mirrored s ga p f room h =
     omega (arith, mul-add j p 1, mul-one j, add-mul (j + 1) b p, add-mul j 1 p, one-mul p) in
     let hk : j + 1 + b < p = omega arith in
     ap (λ (q : ℕ). N ! q) e
-    ∙ mat-in s ga p low f p (j + 1 + b) j (λ i l. omega arith) (omega (arith, row-le (j + 1 + b) p p hk)) hk (omega arith)
+    ∙ mat-in s ga p low f p (j + 1 + b) j (λ i l. omega arith) (omega (arith, row-room (j + 1 + b) p p hk)) hk (omega arith)
     ∙ h (j + 1 + b) j)
     ∙ square s ga p f p (omega arith) ∙ mat-grid s ga p f p

@@ -6,7 +6,8 @@ use lib.ListN.{length}
 use lib.Ieee.{Float}
 use Rattle.numbers.specs.Ops.{_⊖_, _⊘_}
 use Rattle.arrays.specs.Part.{put, tab}
-use Rattle.arrays.specs.Sums.{_!_, products}
+use Rattle.arrays.specs.Sums.{_!_}
+use Rattle.several.specs.Several.{addedOf}
 
 -- ---- rows at a stride
 
@@ -61,8 +62,8 @@ abbrev pub wid : ℕ → ℕ → ℕ → ℕ
 wid nk d a = least nk (d + a + 1)
 
 -- sum b of those from `at`, after i rows of the panels: the left one's column from l, and the right one's column b from r
-unfoldable pub sumAt : List Float → ℕ → ℕ → ℕ → ℕ → ℕ → ℕ → Float
-sumAt s at l r cc i b = products (s ! (at + b)) (λ k. s ! (l + k * cc)) (λ k. s ! (r + k * cc + b)) i
+abbrev pub sumAt : List Float → ℕ → ℕ → ℕ → ℕ → ℕ → ℕ → Float
+sumAt s at l r cc i = addedOf s at s (λ k. s ! (l + k * cc)) r cc i
 
 -- the panels lie before the sums, and no place wraps
 pub record EntryRow (s : List Float) (at w l r cc nr : ℕ) : Type 0 where
@@ -74,7 +75,7 @@ pub record EntryRow (s : List Float) (at w l r cc nr : ℕ) : Type 0 where
 
 -- the sum at row a, column b of a block, after i rows of its panels
 unfoldable pub carry : List Float → ℕ → ℕ → ℕ → ℕ → ℕ → ℕ → ℕ → ℕ → Float
-carry s g p l r cc i a b = products (s ! (g + a * p + b)) (λ k. s ! (l + k * cc + a)) (λ k. s ! (r + k * cc + b)) i
+carry s g p l r cc i a b = sumAt s (g + a * p) (l + a) r cc i b
 
 -- both panels lie before the sums, and a block may end anywhere in its last row
 pub record Block (s : List Float) (g p nj nk d l r cc nr : ℕ) : Type 0 where

@@ -7,7 +7,7 @@ use Rattle.arrays.specs.Part.{part}
 use Rattle.settings.specs.declared.Terms.{Terms}
 use Rattle.layout.specs.declared.Sizes.{Sizes}
 use Rattle.layout.specs.Slots.{Store, Slot.Z}
-use Rattle.design.specs.Mode.{transposedOf}
+use Rattle.design_products.specs.Mode.{transposedOf}
 
 -- where the design is stored, g begins with gradphi, the transposed design times z; in a lazy fit g is not read
 unfoldable pub Gradphi : Sizes → Terms → List Float → Store → List Float → Type 0

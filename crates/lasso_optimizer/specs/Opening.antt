@@ -14,7 +14,7 @@ use Rattle.layout.specs.declared.Sizes.{Sizes}
 use Rattle.layout.specs.Slots.{Store, _⟨_≔_⟩}
 use Rattle.layout.specs.Slots.{Slot.W, Slot.U, Slot.Q1, Slot.Q2, Slot.D1, Slot.D2, Slot.PRB, Slot.PRS, Slot.GRAD, Slot.XNU, Slot.Y, Slot.Z, Slot.NU}
 use Rattle.inner_solver.specs.Inner.{beginStore, bnrmOf}
-use Rattle.design.specs.Mode.{matvecOf, transposedOf}
+use Rattle.design_products.specs.Mode.{matvecOf, transposedOf}
 use Rattle.newton.specs.Newton.{nextT, overSum, overDifference, sumOfSquares, differenceOfSquares, g1Of, gradOf, prbAt, prsOf, tolerance}
 use Rattle.refusal.specs.declared.Failure.{Failure}
 use Rattle.refusal.specs.declared.Failure.the-variants.{Tolerance}

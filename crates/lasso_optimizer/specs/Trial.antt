@@ -12,7 +12,7 @@ use Rattle.settings.specs.declared.Terms.{Terms}
 use Rattle.layout.specs.declared.Sizes.{Sizes}
 use Rattle.layout.specs.Slots.{Store, _⟨_≔_⟩}
 use Rattle.layout.specs.Slots.{Slot.W, Slot.U, Slot.NEWW, Slot.NEWU, Slot.F, Slot.NEWF, Slot.DXU, Slot.Y, Slot.NEWZ}
-use Rattle.design.specs.Mode.{matvecOf}
+use Rattle.design_products.specs.Mode.{matvecOf}
 use Rattle.line_search.specs.Search.{facesOf, largestOf, sumlognegOf, phiOf, decreases}
 use Rattle.pause.specs.Parts.{Tried, accept, halve}
 use Rattle.lasso_optimizer.specs.declared.Scalars.{Scalars}

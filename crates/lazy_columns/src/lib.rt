@@ -11,7 +11,8 @@ ghost use Rattle.numbers.specs.Ops.{_⊕_, _⊗_};
 ghost use Rattle.arrays.specs.Part.{part, put, tab};
 ghost use Rattle.arrays.specs.Vectors.{zipOf, Two};
 ghost use Rattle.arrays.specs.Sums.{products, _!_};
-ghost use Rattle.lazy_normalization.specs.Lazy.{lazyAt, lazyColumns, lazyAdded, allThere, Reads, RowAdds, FourAdd};
+ghost use Rattle.lazy_normalization.specs.Lazy.{lazyAt, lazyColumns, Reads};
+ghost use Rattle.lazy_columns.specs.ColumnSums.{lazyAdded, allThere, RowAdds, FourAdd};
 
 // The Rust's transpose_matvec: the transposed design times the vector at v. Rows are added to all sums at once, four at a time where no reciprocal is missing.
 pub fn columns(

@@ -10,7 +10,8 @@ use lib.Ieee.{Float}
 use Rattle.arrays.specs.Sums.{_!_}
 use Rattle.arrays.proofs.Folds.{fold-none}
 use Rattle.gram_panels.specs.Panels.{mat, least, same, wid, cell, panelAt, carry, Block, low}
-use Rattle.gram_panels.proofs.Mats.{row-le, ends, length-mat, mat-below, mat-beyond, mat-in, mat-gap, mat-self, mat-ext, mat-none}
+use Rattle.matrices.proofs.Lengths.{row-room}
+use Rattle.gram_panels.proofs.Mats.{ends, length-mat, mat-below, mat-beyond, mat-in, mat-gap, mat-self, mat-ext, mat-none}
 use Rattle.gram_panels.proofs.Mats.{mat-mat, mat-append, mat-wide, striped-none}
 use Rattle.lazy_gram.specs.declared.GramPlaces.{GramPlaces}
 use Rattle.lazy_gram.specs.Nest.{Like, tri, entry}
@@ -36,7 +37,7 @@ module _ {m : List Float} {p row nr : ℕ} {s₀ : List Float} {pl : GramPlaces}
   pub pairs-block : (kb : ℕ) (s s₁ : List Float) → kb < jb → length s ≡ length s₀ → s₁ ≡ mat s (pl .ri) (pl .cc) (same (pl .cc)) (panelAt m p s (pl .ce) (pl .sc) row (kb * (pl .cc))) nr
       → Block s₁ ((pl .ga) + jb * (pl .cc) * p + kb * (pl .cc)) p nj (pl .cc) (jb * (pl .cc) - kb * (pl .cc)) (pl .le) (pl .ri) (pl .cc) nr
   pairs-block kb s s₁ h len e =
-      let hk = row-le kb jb (pl .cc) h in
+      let hk = row-room kb jb (pl .cc) h in
       let hr = rows-room (jb * (pl .cc)) nj p (pre .cols) in
       let n : length s₁ ≡ length s₀ = ap length e ∙ length-mat s (pl .ri) (pl .cc) (same (pl .cc)) (panelAt m p s (pl .ce) (pl .sc) row (kb * (pl .cc))) nr ∙ len in
       record {
@@ -67,7 +68,7 @@ module _ {m : List Float} {p row nr : ℕ} {s₀ : List Float} {pl : GramPlaces}
       let Ek : ℕ → ℕ → Float = λ a b. E a (k + b) in
       let M = mat s₀ g p (same k) E nj in
       let P = panelAt m p s (pl .ce) (pl .sc) row k in
-      let hk : k + (pl .cc) ≤ j = row-le kb jb (pl .cc) h in
+      let hk : k + (pl .cc) ≤ j = row-room kb jb (pl .cc) h in
       let room : j * p + nj * p ≤ p * p = rows-room j nj p (pre .cols) in
       let len : length s ≡ length s₀ = L .len ∙ length-mat s₀ g p (same k) E nj in
       let low₀ : (q : ℕ) → q < (pl .ri) → s ! q ≡ s₀ ! q = λ q l. L .low q l ∙ mat-below s₀ g p (same k) E nj q (omega arith) in
@@ -84,11 +85,11 @@ module _ {m : List Float} {p row nr : ℕ} {s₀ : List Float} {pl : GramPlaces}
       ∙ mat-gap s₀ g p (same k) E nj a (k + b) (λ i l. omega arith) (omega arith) (omega arith) in
       let lefts : (i a : ℕ) → i < nr → a < nj → s₁ ! ((pl .le) + i * (pl .cc) + a) ≡ c (row + i) (j + a) =
       λ i a hi ha.
-      let hr = row-le i nr (pl .cc) hi in
+      let hr = row-room i nr (pl .cc) hi in
       L₂ .low ((pl .le) + i * (pl .cc) + a) (omega arith) ∙ mat-below s₀ g p (same k) E nj ((pl .le) + i * (pl .cc) + a) (omega arith) ∙ pre .held i a hi ha in
       let rights : (i b : ℕ) → i < nr → b < (pl .cc) → s₁ ! ((pl .ri) + i * (pl .cc) + b) ≡ c (row + i) (k + b) =
       λ i b hi hb.
-      let hr = row-le i nr (pl .cc) hi in
+      let hr = row-room i nr (pl .cc) hi in
       ap (λ (t : List Float). t ! ((pl .ri) + i * (pl .cc) + b)) e₁
       ∙ mat-in s (pl .ri) (pl .cc) (same (pl .cc)) P nr i b (λ a l. omega arith) (omega arith) hi hb ∙ cells (row + i) b hb in
       let t : mat s₁ (g + k) p (wid (pl .cc) (j - k)) (carry s₁ (g + k) p (pl .le) (pl .ri) (pl .cc) nr) nj ≡ mat s₁ (g + k) p (same (pl .cc)) Ek nj =
@@ -122,7 +123,7 @@ module _ {m : List Float} {p row nr : ℕ} {s₀ : List Float} {pl : GramPlaces}
 
   column-held : (i a : ℕ) → i < nr → a < nj → s₁ ! ((pl .le) + i * (pl .cc) + a) ≡ cell m p s₀ (pl .ce) (pl .sc) (row + i) (jb * (pl .cc) + a)
   column-held i a hi ha =
-      let hr = row-le i nr (pl .cc) hi in
+      let hr = row-room i nr (pl .cc) hi in
       ap (λ (t : List Float). t ! ((pl .le) + i * (pl .cc) + a)) e₁
       ∙ mat-in s₀ (pl .le) (pl .cc) (same nj) (panelAt m p s₀ (pl .ce) (pl .sc) row (jb * (pl .cc))) nr i a (λ z l. omega arith) (omega (arith, lie)) hi ha
 
@@ -195,7 +196,7 @@ module _ {m : List Float} {p row nr : ℕ} {s₀ : List Float} {pl : GramPlaces}
       ∙ mat-gap s₀ g p (same j) E nj a (j + b) (λ i l. omega arith) (omega arith) (omega arith) in
       let held : (i a : ℕ) → i < nr → a < nj → s₂ ! ((pl .le) + i * (pl .cc) + a) ≡ c (row + i) (j + a) =
       λ i a hi ha.
-      let hr = row-le i nr (pl .cc) hi in
+      let hr = row-room i nr (pl .cc) hi in
       LR .low ((pl .le) + i * (pl .cc) + a) (omega (arith, lie)) ∙ mat-below s₁ g p (same j) E₁ nj ((pl .le) + i * (pl .cc) + a) (omega (arith, lie)) ∙ column-held i a hi ha in
       let t : mat s₂ (g + j) p (wid nj 0) (carry s₂ (g + j) p (pl .le) (pl .le) (pl .cc) nr) nj ≡ mat s₂ (g + j) p W Ej nj =
       mat-ext s₂ (g + j) p (wid nj 0) W (carry s₂ (g + j) p (pl .le) (pl .le) (pl .cc) nr) Ej nj (λ a l. omega arith)
@@ -275,7 +276,7 @@ module _ {m : List Float} {p row nr : ℕ} {s₀ : List Float} {pl : GramPlaces}
       (λ a b ha hb.
       adv-like c₁ c row (s ! ((pl .ga) + a * p + b)) (entry c row a b) nr a b
       (L .high ((pl .ga) + a * p + b) (omega arith)
-      ∙ mat-in s₀ (pl .ga) p low (entry c row) p a b (λ i l. omega arith) (omega (arith, lie, row-le a p p ha)) ha hb)
+      ∙ mat-in s₀ (pl .ga) p low (entry c row) p a b (λ i l. omega arith) (omega (arith, lie, row-room a p p ha)) ha hb)
       (λ i. cells i a (omega arith)) (λ i. cells i b (omega arith))
       ∙ adv-entry c row nr a b) in
       let L₃ : Like (pl .le) en (mat s (pl .ga) p low F p) (mat M (pl .ga) p low F p) =

@@ -23,7 +23,8 @@ use Rattle.layout.specs.declared.Places.{Places}
 use Rattle.layout.specs.Slots.{Slot.CENTRE, Slot.SCALE, Slot.LEFT, Slot.RIGHT, Slot.GRAM, off, words, Has, vars, rest}
 use Rattle.layout.proofs.Slots.{start, then}
 use Rattle.gram_panels.specs.Panels.{mat, cell, low, right-of, fromBelow}
-use Rattle.gram_panels.proofs.Mats.{row-le, put-tab-tab, length-mat, mat-below, mat-in, mat-ext, mat-mat}
+use Rattle.matrices.proofs.Lengths.{row-room}
+use Rattle.gram_panels.proofs.Mats.{put-tab-tab, length-mat, mat-below, mat-in, mat-ext, mat-mat}
 use Rattle.gram_panels.proofs.Square.{mirrored}
 use Rattle.lazy_gram.specs.Gram.{cellAt, entryOf, lazyGramOf, lazyGramStore, Lent}
 use Rattle.lazy_gram.specs.declared.GramPlaces.{GramPlaces}
@@ -64,7 +65,7 @@ module _ {m : List Float} {n p rr : ℕ} {s₀ : List Float} {pl : GramPlaces} (
   pub gram-clear : Clear s₁ p (pl .ga)
   gram-clear j k hj hk =
       ap (λ (t : List Float). t ! ((pl .ga) + j * p + k)) e₁
-      ∙ mat-in s₀ (pl .ga) p low nones p j k (λ i l. omega arith) (omega (arith, pre, row-le j p p hj)) hj hk
+      ∙ mat-in s₀ (pl .ga) p low nones p j k (λ i l. omega arith) (omega (arith, pre, row-room j p p hj)) hj hk
 
   gram-cells : (i b : ℕ) → b < p → cell m p s₁ (pl .ce) (pl .sc) i b ≡ cellAt p m (part s₀ (pl .ce) p) (part s₀ (pl .sc) p) i b
   unfolding cell
@@ -87,7 +88,7 @@ module _ {m : List Float} {n p rr : ℕ} {s₀ : List Float} {pl : GramPlaces} (
       let F : ℕ → ℕ → Float = λ j i. raised gg pp (eqb j i) (S j i) in
       let M = mat s₀ (pl .ga) p low S p in
       let N = mat s₀ (pl .ga) p low F p in
-      let fits : (a : ℕ) → a < p → (pl .ga) + a * p + low a ≤ length s₀ = λ a l. omega (arith, pre, row-le a p p l) in
+      let fits : (a : ℕ) → a < p → (pl .ga) + a * p + low a ≤ length s₀ = λ a l. omega (arith, pre, row-room a p p l) in
       let m₁ : mat s₁ (pl .ga) p low (entry c₁ n) p ≡ M =
       mat-ext s₁ (pl .ga) p low low (entry c₁ n) S p (λ a l. refl)
       (λ a b ha hb. entry-like c₁ D n a b (λ i. gram-cells i a (omega arith)) (λ i. gram-cells i b (omega arith)))
@@ -109,7 +110,7 @@ module _ {m : List Float} {n p rr : ℕ} {s₀ : List Float} {pl : GramPlaces} (
       mat-ext s₃ ((pl .ga) + 1) (p + 1) (right-of p) (right-of p) (fromBelow s₃ (pl .ga) p) U p (λ a l. refl)
       (λ j b hj hb. L₃ .high ((pl .ga) + p + j * (p + 1) + b * p) (omega (arith, pre))) in
       let L₄ : Like (pl .le) en (mat s₃ ((pl .ga) + 1) (p + 1) (right-of p) U p) (mat N ((pl .ga) + 1) (p + 1) (right-of p) U p) =
-      like-mat (pl .le) en s₃ N ((pl .ga) + 1) (p + 1) (right-of p) U p (λ a l. omega (arith, pre, row-le a p p l, mul-add a p 1, mul-one a)) L₃ in
+      like-mat (pl .le) en s₃ N ((pl .ga) + 1) (p + 1) (right-of p) U p (λ a l. omega (arith, pre, row-room a p p l, mul-add a p 1, mul-one a)) L₃ in
       subst (λ (v : List Float). Like (pl .le) en v (put s₀ (pl .ga) (grid F p p))) (sym (e₄ ∙ t₄))
       (subst (λ (v : List Float). Like (pl .le) en (mat s₃ ((pl .ga) + 1) (p + 1) (right-of p) U p) v)
       (mirrored s₀ (pl .ga) p F (pre .gram) (raised-sym gg pp S (λ a i. entry-sym D n a i))) L₄)

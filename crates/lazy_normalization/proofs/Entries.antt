@@ -1,24 +1,18 @@
 -- What the products read is the design's entries, in a slice whose columns' numbers and vector no write touches. Assumes nothing.
 use mathlib.Core.Path.{_≡_}
 use mathlib.Core.List.{List}
-use Prim.Native.Nat.{ℕ, _+_, _*_, _≤_, _<_}
+use Prim.Native.Nat.{ℕ, _+_, _≤_, _<_}
 use native.Mathlib.Omega.{arith}
 use lib.ListN.{length}
 use lib.Ieee.{Float}
 use Rattle.arrays.specs.Part.{part}
-use Rattle.arrays.specs.Sums.{_!_}
 use Rattle.arrays.proofs.Turns.{Made, part-kept}
 use Rattle.layout.specs.declared.Places.{Places}
-use Rattle.lazy_normalization.specs.Lazy.{Reads, normalised, lazyAt}
+use Rattle.lazy_normalization.specs.Lazy.{Reads, lazyAt}
 
 -- row i of m with the centres, scales and reciprocals at ce, sc and rc of s
 abbrev pub rowOf : List Float → List Float → ℕ → ℕ → ℕ → ℕ → ℕ → ℕ → Float
 rowOf m s p ce sc rc i k = lazyAt p m (part s ce p) (part s sc p) (part s rc p) i k
-
--- the row starts at `at`; a, b and c are the centre, the scale and the reciprocal of column j
-pub entry : (m s : List Float) (p ce sc rc i at j : ℕ) {a b c x : Float} → at ≡ i * p → a ≡ part s ce p ! j → b ≡ part s sc p ! j → c ≡ part s rc p ! j
-    → x ≡ normalised (m ! (at + j)) a b c → x ≡ rowOf m s p ce sc rc i j
-entry m s p ce sc rc i at j e ea eb ec y = rw (y, e, ea, eb, ec)
 
 -- row i, column j of the design with the columns' numbers that lie in s
 abbrev pub design : List Float → List Float → ℕ → Places → ℕ → ℕ → Float

@@ -1,13 +1,12 @@
 -- The design that is not stored, of lazy_normalization.rs: its products with a vector. Definitions only.
-use mathlib.Core.Path.{_≡_}
-use mathlib.Core.Bool.{Bool, true, false, cond, _&&_}
+use mathlib.Core.Bool.{Bool, cond, _&&_}
 use mathlib.Core.List.{List, _++_}
-use Prim.Native.Nat.{ℕ, zero, suc, _+_, _*_, _≤_, _<_}
+use Prim.Native.Nat.{ℕ, _+_, _*_, _≤_, _<_}
 use lib.ListN.{length}
 use lib.Ieee.{Float, eq, le, lt}
 use Rattle.numbers.specs.Ops.{_⊕_, _⊖_, _⊗_, _⊘_, f64, magnitudeOf}
 use Rattle.numbers.specs.Constants.{one}
-use Rattle.arrays.specs.Part.{part, tab}
+use Rattle.arrays.specs.Part.{tab}
 use Rattle.arrays.specs.Sums.{_!_, products, plus0}
 use Rattle.layout.specs.declared.Sizes.{Sizes}
 use Rattle.layout.specs.declared.Places.{Places}
@@ -60,55 +59,3 @@ pub record Reads (m : List Float) (n p : ℕ) (s : List Float) (l : Places) (v n
   pub room : out + no ≤ length s
   pub off-columns : out < l .recip + p → out + no ≤ l .centre
   pub off-vector : out < v + nv → out + no ≤ v
-
--- row i of it, which starts at `at`
-pub record RowReads (m : List Float) (i at p : ℕ) (s : List Float) (l : Places) (v : ℕ) : Type 0 where
-  pub start : at ≡ i * p
-  pub row : at + p ≤ length m
-  pub centres : l .centre + p ≤ length s
-  pub scales : l .scale + p ≤ length s
-  pub reciprocals : l .recip + p ≤ length s
-  pub vector : v + p ≤ length s
-
--- the same row, and elsewhere p sums that it is added to
-pub record RowAdds (m : List Float) (i at p : ℕ) (s : List Float) (l : Places) (out : ℕ) : Type 0 where
-  pub start : at ≡ i * p
-  pub row : at + p ≤ length m
-  pub centres : l .centre + p ≤ l .scale
-  pub scales : l .scale + p ≤ l .recip
-  pub reciprocals : l .recip + p ≤ length s
-  pub room : out + p ≤ length s
-  pub off-columns : out < l .recip + p → out + p ≤ l .centre
-
--- ---- inside: nobody has to believe these
-
--- the row sums times gamma, without the padding
-unfoldable pub lazySums : ℕ → ℕ → Terms → List Float → List Float → List Float → List Float → List Float → List Float
-lazySums n p t m ce sc rc xs = tab (λ i. products plus0 (λ j. lazyAt p m ce sc rc i j) (λ j. xs ! j) p ⊗ t .gamma) n
-
--- the column sums of the first n rows, added to those of `sums`
-unfoldable pub lazyAdded : ℕ → ℕ → List Float → List Float → List Float → List Float → List Float → List Float → List Float
-lazyAdded n p m ce sc rc xs sums = tab (λ j. products (sums ! j) (λ i. lazyAt p m ce sc rc i j) (λ i. xs ! i) n) p
-
--- of the first p reciprocals none stands for division
-unfoldable pub allThere : List Float → ℕ → Bool
-allThere rc zero = true
-allThere rc (suc p) = cond (eq (rc ! p) plus0) false (allThere rc p)
-
--- the rows i, i + e, .. i + 7 * e
-pub record EightRead (m : List Float) (i e p : ℕ) (s : List Float) (l : Places) (v : ℕ) : Type 0 where
-  pub last : i * p + 7 * (e * p) + p ≤ length m
-  pub centres : l .centre + p ≤ length s
-  pub scales : l .scale + p ≤ length s
-  pub reciprocals : l .recip + p ≤ length s
-  pub vector : v + p ≤ length s
-
--- the rows i to i + 3, nothing of which is divided, and elsewhere p sums that they are added to
-pub record FourAdd (m : List Float) (i p : ℕ) (s : List Float) (l : Places) (out : ℕ) : Type 0 where
-  pub last : i * p + 3 * p + p ≤ length m
-  pub centres : l .centre + p ≤ l .scale
-  pub scales : l .scale + p ≤ l .recip
-  pub reciprocals : l .recip + p ≤ length s
-  pub room : out + p ≤ length s
-  pub off-columns : out < l .recip + p → out + p ≤ l .centre
-  pub there : allThere (part s (l .recip) p) p ≡ true

@@ -1,84 +1,58 @@
--- The design times a vector: the turns that sum a row's products, one row's or eight rows', a turn of the rows, and its end. Assumes nothing.
-use mathlib.Core.Path.{_≡_, refl, sym, ap, _∙_}
+-- The design times a vector: a row's products, a turn that writes a row of each eighth, a turn that writes one row, and the end. Assumes nothing.
+use mathlib.Core.Path.{_≡_, sym, ap, _∙_}
 use mathlib.Core.List.{List, _++_}
 use Prim.Native.Nat.{ℕ, _+_, _*_, _≤_, _<_}
 use native.Mathlib.Omega.{arith}
-use lib.ListN.{length, set, length-set}
+use lib.ListN.{set}
 use lib.Ieee.{Float, nan}
-use Rattle.numbers.specs.Ops.{_⊕_, _⊗_}
+use Rattle.numbers.specs.Ops.{_⊗_}
 use Rattle.arrays.specs.Part.{part, put, tab}
 use Rattle.arrays.proofs.Part.{put-append, getD-tab, getD-part, length-tab}
 use Rattle.arrays.specs.Sums.{_!_, products, plus0}
-use Rattle.arrays.proofs.Folds.{fold-turn}
 use Rattle.arrays.specs.Vectors.{mapOf}
-use Rattle.arrays.proofs.Turns.{Made, made-first, made-more, made-all}
-use Rattle.several.proofs.Runs.{Runs, but-kept, runs-more, runs-turn, runs-all, front-all}
+use Rattle.arrays.proofs.Turns.{Made, made-more, made-all}
+use Rattle.several.specs.Several.{spreadOf}
+use Rattle.several.proofs.Several.{few}
+use Rattle.several.proofs.Runs.{Runs, but-kept, runs-spread}
+use Rattle.several.proofs.Rows.{run-row}
 use Rattle.layout.specs.declared.Places.{Places}
 use Rattle.settings.specs.declared.Terms.{Terms}
-use Rattle.lazy_normalization.specs.Lazy.{Reads, normalised, lazySums}
-use Rattle.lazy_normalization.proofs.Entries.{rowOf, entry, design, unwritten-of, while-made}
+use Rattle.lazy_normalization.specs.Lazy.{Reads, normalised}
+use Rattle.lazy_normalization.proofs.Entries.{design, unwritten-of, while-made}
+use Rattle.lazy_rows.specs.RowSums.{RowReads, EightRead}
 
 -- row i times the vector
 abbrev pub rowSum : List Float → List Float → ℕ → Places → ℕ → ℕ → Float
 rowSum m s p l v i = products plus0 (λ j. design m s p l i j) (λ j. part s v p ! j) p
 
--- a product of row i with the vector at v
-pub row-term : (m s : List Float) (p ce sc rc v i at j : ℕ) {y : Float} → at ≡ i * p → j < p
-    → y ≡ normalised (m ! (at + j)) (s ! (ce + j)) (s ! (sc + j)) (s ! (rc + j)) → y ⊗ s ! (v + j) ≡ rowOf m s p ce sc rc i j ⊗ part s v p ! j
-row-term m s p ce sc rc v i at j e h y =
-    let q = entry m s p ce sc rc i at j e (read ce) (read sc) (read rc) y in
-    rw (q, read v)
-  where
-    read : (a : ℕ) → s ! (a + j) ≡ part s a p ! j
-    read a = sym (getD-part s a p j nan h)
+-- a product of row i with the vector
+pub row-term : {m : List Float} {i at p : ℕ} {s : List Float} {l : Places} {v : ℕ} → RowReads m i at p s l v → {y : Float} (j : ℕ) → j < p
+    → y ≡ normalised (m ! (at + j)) (s ! (l .centre + j)) (s ! (l .scale + j)) (s ! (l .recip + j)) → y ⊗ s ! (v + j) ≡ design m s p l i j ⊗ part s v p ! j
+row-term r j h y = rw (y, r .start) (simp getD-part)
 
-pub row-more : (m s : List Float) (p ce sc rc v i at j : ℕ) {x y : Float} → at ≡ i * p → j < p
-    → x ≡ products plus0 (rowOf m s p ce sc rc i) (λ k. part s v p ! k) j
-    → y ≡ normalised (m ! (at + j)) (s ! (ce + j)) (s ! (sc + j)) (s ! (rc + j))
-    → x ⊕ y ⊗ s ! (v + j) ≡ products plus0 (rowOf m s p ce sc rc i) (λ k. part s v p ! k) (j + 1)
-row-more m s p ce sc rc v i at j e h ex y = fold-turn _ plus0 _ j _ _ ex (row-term m s p ce sc rc v i at j e h y)
-
--- ---- the first 8 * e rows, taken in eighths
-
--- the first k of xs times gamma are stored as element i of an eighth each, whatever the eighths begin with
-pub record Stored (out e : ℕ) (gamma : Float) (xs s₁ s : List Float) (i k : ℕ) : Type 0 where
-  pub long : length s ≡ length s₁
-  pub runs : (s₀ : List Float) (f : ℕ → Float) → Runs s₀ out (8 * e) 8 e f s₁ i 0 → ((a : ℕ) → a < 8 → xs ! a ⊗ gamma ≡ f (a * e + i))
-      → Runs s₀ out (8 * e) 8 e f s i k
-
-pub stored-none : (out e : ℕ) (gamma : Float) (xs s : List Float) (i : ℕ) → Stored out e gamma xs s s i 0
-stored-none out e gamma xs s i = record { long = refl; runs = λ s₀ f d q. d }
-
-pub stored-more : {out e : ℕ} {gamma : Float} {xs s₁ s : List Float} {i k : ℕ} → Stored out e gamma xs s₁ s i k → i < e → k < 8 → out + 8 * e ≤ length s₁
-    → Stored out e gamma xs s₁ (set s (out + (k * e + i)) (xs ! k ⊗ gamma)) i (k + 1)
-stored-more {k = k} z h j room = record {
-  long = simp length-set (z .long);
-  runs = λ s₀ f d q. runs-more (z .runs s₀ f d q) _ h j (omega (arith, d .but .long)) (q k j);
+-- each of eight rows is one
+pub one-of : {m : List Float} {i e p : ℕ} {s : List Float} {l : Places} {v : ℕ} → EightRead m i e p s l v → (k : ℕ) → k < 8
+    → RowReads m (k * e + i) (i * p + k * (e * p)) p s l v
+one-of {i = i} {e} {p} r k h = record {
+  start = sym (run-row k e i p);
+  row = omega (arith, few k 7 (e * p) h, r .last);
+  centres = r .centres;
+  scales = r .scales;
+  reciprocals = r .reciprocals;
+  vector = r .vector;
 }
 
-module _ {m : List Float} {e p : ℕ} {s₀ : List Float} {l : Places} {v out : ℕ} (r : Reads m (8 * e) p s₀ l v p out (8 * e)) (t : Terms) {s : List Float} {i : ℕ}
-    (d : Runs s₀ out (8 * e) 8 e (λ a. rowSum m s₀ p l v a ⊗ t .gamma) s i 0) where
-  pub eighths-turn : {u xs : List Float} {k : ℕ} → xs ≡ tab (λ a. rowSum m s p l v (a * e + i)) 8 → Stored out e (t .gamma) xs s u i k → 8 ≤ k → i < e
-      → Runs s₀ out (8 * e) 8 e (λ a. rowSum m s₀ p l v a ⊗ t .gamma) u (i + 1) 0
-  eighths-turn {xs = xs} q z h j = runs-turn (z .runs s₀ _ d sums) h j where
-    sums : (a : ℕ) → a < 8 → xs ! a ⊗ t .gamma ≡ rowSum m s₀ p l v (a * e + i) ⊗ t .gamma
-    sums a h =
-        let w = unwritten-of r (but-kept (d .but)) in
-        ap (λ (ys : List Float). ys ! a ⊗ t .gamma) q ∙ ap (λ (y : Float). y ⊗ t .gamma) (getD-tab _ 8 a nan h)
-        ∙ rw (w .centres, w .scales, w .reciprocals, w .vector)
-
-  pub eighths-all : e ≤ i
-      → s ≡ put s₀ out (lazySums (8 * e) p t m (part s₀ (l .centre) p) (part s₀ (l .scale) p) (part s₀ (l .recip) p) (part s₀ v p))
-  unfolding lazySums
-  eighths-all h = front-all (runs-all d h) (omega arith) (r .room)
+-- a turn that writes one row of each eighth: xs are their sums, ys those times gamma
+pub eighths-turn : {m : List Float} {e p : ℕ} {s₀ : List Float} {l : Places} {v out : ℕ} → Reads m (8 * e) p s₀ l v p out (8 * e)
+    → (gamma : Float) {s : List Float} {i : ℕ} → Runs s₀ out 8 e (λ a. rowSum m s₀ p l v a ⊗ gamma) s i 0
+    → {xs ys u : List Float} → xs ≡ tab (λ a. rowSum m s p l v (a * e + i)) 8 → ys ≡ tab (λ a. xs ! a ⊗ gamma) 8
+    → u ≡ spreadOf s (out + i) e (λ a. ys ! a) 8 → i < e → Runs s₀ out 8 e (λ a. rowSum m s₀ p l v a ⊗ gamma) u (i + 1) 0
+eighths-turn r gamma d {u = u} q z w h =
+    let k = unwritten-of r (but-kept (d .but)) in
+    runs-spread d _ u w h (r .room)
+    (λ a b. rw (z, getD-tab _ 8 a nan b, q, getD-tab _ 8 a nan b, k .centres, k .scales, k .reciprocals, k .vector))
 
 -- ---- all rows
-
-pub rows-from : (m : List Float) (n p : ℕ) (t : Terms) (s₀ s : List Float) (l : Places) (v out i : ℕ) → i ≤ n
-    → s ≡ put s₀ out (lazySums i p t m (part s₀ (l .centre) p) (part s₀ (l .scale) p) (part s₀ (l .recip) p) (part s₀ v p))
-    → Made s₀ out n (λ k. rowSum m s₀ p l v k ⊗ t .gamma) s i
-unfolding lazySums
-rows-from m n p t s₀ s l v out i h e = made-first s₀ out n _ s i h e
 
 module _ {m : List Float} {n p : ℕ} {s₁ : List Float} {l : Places} {v out : ℕ} (r : Reads m n p s₁ l v p out (n + p)) (t : Terms) {s₀ s : List Float} {i : ℕ}
     (d : Made s₀ out n (λ k. rowSum m s₀ p l v k ⊗ t .gamma) s i) where

@@ -2,11 +2,14 @@
 use layout::Places;
 use lazy_normalization::normalise;
 use settings::Terms;
+use several::put_eight;
 ghost use mathlib.Core.Path.{_≡_};
 ghost use Prim.Native.Nat.{_+_, _*_};
+ghost use Rattle.numbers.specs.Ops.{_⊗_};
 ghost use Rattle.arrays.specs.Part.{part, put, tab};
 ghost use Rattle.arrays.specs.Sums.{products, plus0, _!_};
-ghost use Rattle.lazy_normalization.specs.Lazy.{lazyAt, lazyRows, lazySums, Reads, RowReads, EightRead};
+ghost use Rattle.lazy_normalization.specs.Lazy.{lazyAt, lazyRows, Reads};
+ghost use Rattle.lazy_rows.specs.RowSums.{lazySums, RowReads, EightRead};
 
 // The Rust's matvec: the design times the vector at v. The last p elements are those of the padding.
 pub fn rows(m: &[f64], n: usize, p: usize, t: Terms, s: &mut [f64], l: Places, v: usize, out: usize)
@@ -31,12 +34,22 @@ fn eighths(m: &[f64], e: usize, p: usize, t: Terms, s: &mut [f64], l: Places, v:
     ensures { λ _. ⌜ now (s .exit) ≡ put (now (s .entry)) out (lazySums (8 * e) p t (now (m .entry)) (part (now (s .entry)) (l .centre) p)
         (part (now (s .entry)) (l .scale) p) (part (now (s .entry)) (l .recip) p) (part (now (s .entry)) v p)) ⌝ }
 {
+    let gamma = t.gamma;
     for i in 0..e {
         let x = eight_sums(m, i, e, p, s, l, v);
-        for k in 0..8 {
-            s[out + (k * e + i)] = x[k] * t.gamma;
-        }
+        put_eight(s, out + i, e, scaled(x, gamma));
     }
+}
+
+// Each of the eight times gamma.
+fn scaled(x: [f64; 8], gamma: f64) -> [f64; 8]
+    ensures { λ r. ⌜ r ≡ tab (λ k. x ! k ⊗ gamma) 8 ⌝ }
+{
+    let mut r = [0.0; 8];
+    for k in 0..8 {
+        r[k] = x[k] * gamma;
+    }
+    r
 }
 
 // The rows i, i + e, .. i + 7 * e times the vector at v: eight streams through memory, and eight sums of which none waits for another. Whether a column has a

@@ -8,7 +8,7 @@ use lib.Ieee.{Float, nan}
 use Rattle.arrays.specs.Part.{part, tab}
 use Rattle.arrays.proofs.Part.{getD-part, getD-tab}
 use Rattle.arrays.specs.Sums.{_!_, productOf}
-use Rattle.several.specs.Together.{spreadOf}
+use Rattle.several.specs.Several.{spreadOf}
 use Rattle.arrays.proofs.Turns.{Made, part-kept, made-more}
 use Rattle.several.proofs.Runs.{Runs, runs-spread}
 use Rattle.several.proofs.Rows.{row-is, run-product}
@@ -35,10 +35,10 @@ row-more m cols v xs x d h off row e = made-more d x h (rw (e, part-kept d v col
 
 -- the turn that writes one product of each run: row i of the first run begins at `at` in xs, which holds m from `mat` on
 pub run-more : {s₀ : List Float} {out e : ℕ} {s : List Float} {i : ℕ} (m : List Float) (mat cols v : ℕ) (xs : List Float) (at : ℕ) (t r : List Float)
-    → Runs s₀ out (8 * e) 8 e (rowProduct m cols (part s₀ v cols)) s i 0 → i < e → out + 8 * e ≤ length s₀
+    → Runs s₀ out 8 e (rowProduct m cols (part s₀ v cols)) s i 0 → i < e → out + 8 * e ≤ length s₀
     → part s v cols ≡ part s₀ v cols → ((q : ℕ) → q < 8 * e * cols → xs ! (mat + q) ≡ m ! q) → at ≡ mat + i * cols
     → t ≡ tab (λ k. productOf cols (part xs (at + k * (e * cols)) cols) (part s v cols)) 8 → r ≡ spreadOf s (out + i) e (λ k. t ! k) 8
-    → Runs s₀ out (8 * e) 8 e (rowProduct m cols (part s₀ v cols)) r (i + 1) 0
+    → Runs s₀ out 8 e (rowProduct m cols (part s₀ v cols)) r (i + 1) 0
 run-more {s₀} {e = e} {i = i} m mat cols v xs at t r d h room kept held q sums written =
     runs-spread d _ r written h room (λ k l.
     ap (λ (t : List Float). t ! k) sums ∙ getD-tab _ 8 k nan l

@@ -8,12 +8,12 @@ use native.Mathlib.Omega.{arith}
 use lib.ListN.{length}
 use lib.Ieee.{Float, binary64, nan}
 use Rattle.arrays.specs.Part.{part, put, tab}
-use Rattle.arrays.proofs.Part.{tab-ext, getD-tab, getD-part, length-tab, part-put-same}
+use Rattle.arrays.proofs.Part.{tab-ext, getD-part, getD-put-tab}
 use Rattle.arrays.specs.Sums.{_!_, plus0}
 use Rattle.arrays.proofs.Folds.{fold-ext}
 use Rattle.arrays.proofs.Commute.{times-comm}
 use Rattle.arrays.specs.Vectors.{Clear, fillOf}
-use Rattle.several.specs.Together.{addedOf}
+use Rattle.several.specs.Several.{addedOf}
 use Rattle.arrays.proofs.Turns.{Made, made-of, made-again, part-kept}
 use Rattle.several.proofs.Added.{added-on}
 use Rattle.matrices.specs.Products.{columnProduct, columnsOf, Together}
@@ -103,10 +103,7 @@ module _ {s₀ s₁ : List Float} {mat rows cols v : ℕ} (a : Alike s₀ s₁ m
   from-none : (j : ℕ) → j < cols → summed t₁ out s₁ mat cols v rows j ≡ columnProduct (part s₀ mat (rows * cols)) rows cols (part s₀ v rows) j
   unfolding addedOf
   from-none j l =
-      let none : t₁ ! (out + j) ≡ plus0 =
-      sym (getD-part t₁ out cols j nan l)
-      ∙ ap (λ (xs : List Float). part xs out cols ! j) (d .is)
-      ∙ ap (λ (xs : List Float). xs ! j) (part-put-same t₀ out (tab (λ k. plus0) cols) cols (length-tab _ cols) room) ∙ getD-tab _ cols j nan l in
+      let none : t₁ ! (out + j) ≡ plus0 = rw (d .is) (getD-put-tab t₀ out (λ k. plus0) cols j nan room l) in
       rw none
       (fold-ext _ _ _ _ rows (λ k h.
       rw (element-of a k h, entry-of a k j h l) (times-comm binary64 (part s₀ v rows ! k) (part s₀ mat (rows * cols) ! (k * cols + j)))))

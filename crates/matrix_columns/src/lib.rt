@@ -9,7 +9,7 @@ ghost use Prim.Native.Nat.{_+_, _*_, _≤_};
 ghost use lib.ListN.{length};
 ghost use Rattle.arrays.specs.Part.{part, put, tab};
 ghost use Rattle.arrays.specs.Sums.{_!_};
-ghost use Rattle.several.specs.Together.{addedOf};
+ghost use Rattle.several.specs.Several.{addedOf};
 ghost use Rattle.matrices.specs.Products.{columnsOf, Together};
 
 // 4 * q rows of the matrix at `mat`, each times its element of the vector at v, added to the sums at `out`: four at a time, so that a sum is read and written

@@ -8,7 +8,7 @@ use lib.Ieee.{Float}
 use Rattle.layout.specs.declared.Sizes.{Sizes}
 use Rattle.layout.specs.declared.Places.{Places}
 use Rattle.layout.specs.Slots.{Room}
-use Rattle.design.specs.Mode.{Held}
+use Rattle.design_products.specs.Mode.{Held}
 use Rattle.design.specs.Statistics.{Given}
 use Rattle.beginning.proofs.Starts.{begins-on}
 use Rattle.measure.specs.Measure.{Lent}

@@ -6,10 +6,10 @@ use bg_solver::shared::Turned;
 use c_values::SETTINGS_WORDS;
 use c_values::settings_from;
 use checks::limits;
-use design::mode::matvec;
-use design::mode::transposed;
 use design::statistics::first_constant;
 use design::statistics::statistics;
+use design_products::matvec;
+use design_products::transposed;
 use layout::Places;
 use layout::Sizes;
 use layout::need;
@@ -19,7 +19,7 @@ use refusal::Checked;
 use settings::Terms;
 use settings::terms_of;
 ghost use Rattle.layout.specs.Slots.{Room};
-ghost use Rattle.design.specs.Mode.{Held};
+ghost use Rattle.design_products.specs.Mode.{Held};
 ghost use Rattle.measure.specs.Measure.{Lent};
 
 // The solver inside a fit: its first lines, and `count` rounds. `given` has d1, d2, prb, prs, dxu and grad, in the order of the scratch.

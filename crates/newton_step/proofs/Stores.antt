@@ -16,8 +16,8 @@ use Rattle.layout.specs.Store.{upd}
 use Rattle.layout.specs.Slots.{Store, _⟨_≔_⟩, Has, Laid, vars}
 use Rattle.layout.proofs.Slots.{then}
 use Rattle.layout.specs.Slots.{Slot.W, Slot.U, Slot.Q1, Slot.Q2, Slot.D1, Slot.D2, Slot.PRB, Slot.PRS, Slot.GRAD, Slot.XNU, Slot.Z}
-use Rattle.design.specs.Mode.{transposedOf}
-use Rattle.design.proofs.Lengths.{length-transposed}
+use Rattle.design_products.specs.Mode.{transposedOf}
+use Rattle.design_products.proofs.Lengths.{length-transposed}
 use Rattle.newton.specs.Newton.{overSum, overDifference, sumOfSquares, differenceOfSquares, g1Of, g2At, gradOf, prbAt, prsOf}
 use Rattle.newton.proofs.Lengths.{length-g1, length-grad, length-prs}
 use Rattle.lasso_optimizer.specs.Gradphi.{Gradphi}

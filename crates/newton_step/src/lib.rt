@@ -1,6 +1,6 @@
 // The Newton part of an opening: the barrier's terms, the gradient and the preconditioner, for the weight t of the barrier.
 use arrays::vectors::copy_from;
-use design::mode::transposed;
+use design_products::transposed;
 use layout::Places;
 use layout::Sizes;
 use newton::difference_of_squares;
@@ -15,7 +15,7 @@ use newton::sum_of_squares;
 use settings::Terms;
 ghost use mathlib.Core.Path.{_≡_};
 ghost use Rattle.arrays.specs.Part.{part, put};
-ghost use Rattle.design.specs.Mode.{transposedOf, Held};
+ghost use Rattle.design_products.specs.Mode.{transposedOf, Held};
 ghost use Rattle.layout.specs.Slots.{Room, vars, Makes};
 ghost use Rattle.lasso_optimizer.specs.Gradphi.{Gradphi};
 ghost use Rattle.lasso_optimizer.specs.Opening.{barrierStore, gradientStore, preconditionerStore, newtonStore};

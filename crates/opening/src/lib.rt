@@ -12,7 +12,7 @@ use newton_step::newton_terms;
 use refusal::Failure;
 use settings::Terms;
 ghost use mathlib.Core.Path.{_≡_};
-ghost use Rattle.design.specs.Mode.{Held};
+ghost use Rattle.design_products.specs.Mode.{Held};
 ghost use Rattle.layout.specs.Slots.{Room, vars, rest};
 ghost use Rattle.duality.specs.Gap.{Known};
 ghost use Rattle.lasso_optimizer.specs.Data.{held};

@@ -20,7 +20,7 @@ use Rattle.bg_solver.specs.Solver.{Work, begun, turned}
 use Rattle.bg_solver.proofs.Lengths.{length-aimed}
 use Rattle.inner_solver.specs.Inner.{systemOf, workOf, withWork, beginStore, roundOf, turnStore}
 use Rattle.inner_solver.proofs.Lengths.{length-solved, length-times}
-use Rattle.design.proofs.Lengths.{length-matvec-of, length-transposed}
+use Rattle.design_products.proofs.Lengths.{length-matvec-of, length-transposed}
 use Rattle.newton.specs.Newton.{nextT}
 use Rattle.newton.proofs.Lengths.{length-g1, length-grad, length-prs}
 use Rattle.line_search.specs.Search.{largestOf, decreases}

@@ -3,8 +3,8 @@
 // Gram, both products) and the vectors of the products; the numbers matrix and targets.
 use c_values::settings_from;
 use checks::limits;
-use design::mode::matvec;
-use design::mode::transposed;
+use design_products::matvec;
+use design_products::transposed;
 use elastic_net::Started;
 use elastic_net::start;
 use layout::place;

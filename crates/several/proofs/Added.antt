@@ -8,21 +8,19 @@ use lib.ListN.{length}
 use lib.Ieee.{Float, nan}
 use Rattle.numbers.specs.Ops.{_⊕_, _⊗_}
 use Rattle.arrays.specs.Part.{part, put, tab}
-use Rattle.arrays.proofs.Part.{tab-ext, getD-tab, getD-part, length-tab, part-put-same}
+use Rattle.arrays.proofs.Part.{tab-ext, getD-tab, getD-part, getD-put-tab, put-self}
 use Rattle.arrays.specs.Sums.{_!_}
 use Rattle.arrays.proofs.Folds.{fold-none, fold-turn, fold-ext, fold-on}
 use Rattle.arrays.specs.Vectors.{Clear, zipOf}
-use Rattle.several.specs.Together.{addedOf}
+use Rattle.several.specs.Several.{addedOf}
 use Rattle.arrays.proofs.Turns.{Made, made-of, made-again, kept}
-use Rattle.several.proofs.Runs.{but-none, front-all}
 
 -- no vector, and one
 pub added-none : (t : List Float) (out n : ℕ) (s : List Float) (f : ℕ → Float) (r apart : ℕ) → out + n ≤ length t
     → Made t out n (addedOf t out s f r apart 0) t n
 unfolding addedOf
 added-none t out n s f r apart room =
-    made-of t out n _ t
-    (front-all {i = n} (record { within = omega arith; but = but-none t out n; made = λ j l. sym (fold-none _ _ _) }) (omega arith) room)
+    made-of t out n _ t (sym (put-self t out _ n nan room (λ j l. fold-none _ _ _)))
 
 pub added-one : (t : List Float) (out n : ℕ) (s : List Float) (x : Float) (r apart : ℕ)
     → zipOf (λ (a w : Float). a ⊕ x ⊗ w) n (part t out n) (part s r n) ≡ tab (addedOf t out s (λ k. x) r apart 1) n
@@ -41,9 +39,7 @@ unfolding addedOf
 added-on {t₀} s₀ s {out} {n} f r apart i count {t} d room same g is at e u q =
     made-again d _ u (q ∙ ap (put t out) (tab-ext _ _ n (λ j l.
     let begun : t ! (out + j) ≡ addedOf t₀ out s₀ f r apart i j =
-    sym (getD-part t out n j nan l)
-    ∙ ap (λ (xs : List Float). part xs out n ! j) (d .is) ∙ ap (λ (xs : List Float). xs ! j) (part-put-same t₀ out (tab _ n) n (length-tab _ n) room)
-    ∙ getD-tab _ n j nan l in
+    rw (d .is) (getD-put-tab t₀ out (addedOf t₀ out s₀ f r apart i) n j nan room l) in
     let kept : (k : ℕ) → k < count → s ! (at + k * apart + j) ≡ s₀ ! (r + (i + k) * apart + j) =
     λ k u.
     let place : at + k * apart ≡ r + (i + k) * apart = omega (arith, add-mul i k apart) in

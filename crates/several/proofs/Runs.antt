@@ -11,27 +11,20 @@ use lib.ListN.{length, set, length-set}
 use lib.Seq.{getD-set-other, getD-set-same, ext-getD}
 use lib.Ieee.{Float, nan}
 use Rattle.arrays.specs.Part.{part, put, tab}
-use Rattle.arrays.proofs.Part.{Apart, apart-of, length-tab, length-put, length-part, getD-tab, getD-part, part-put-same, getD-put-above, getD-put-below}
+use Rattle.arrays.proofs.Part.{Apart, apart-of, length-tab, length-put, length-part, getD-part, getD-put-above, getD-put-below, getD-put-tab}
 use Rattle.arrays.specs.Sums.{_!_}
 use Rattle.arrays.proofs.Turns.{Made, made-more}
-use Rattle.several.specs.Together.{spreadOf}
+use Rattle.several.specs.Several.{spreadOf}
 
 -- s is s₀ but for the n elements from `out`
 pub record But (s₀ : List Float) (out n : ℕ) (s : List Float) : Type 0 where
   pub long : length s ≡ length s₀
   pub left : (q : ℕ) → (q < out) ⊎ (out + n ≤ q) → s ! q ≡ s₀ ! q
 
--- the first i of them are those of f
-pub record Front (s₀ : List Float) (out n : ℕ) (f : ℕ → Float) (s : List Float) (i : ℕ) : Type 0 where
-  pub within : i ≤ n
-  pub but : But s₀ out n s
-  pub made : (r : ℕ) → r < i → s ! (out + r) ≡ f r
-
--- of the first `count` runs of e of them the first i are those of f, and of k runs one more
-pub record Runs (s₀ : List Float) (out n count e : ℕ) (f : ℕ → Float) (s : List Float) (i k : ℕ) : Type 0 where
+-- they are `count` runs of e, of each of which the first i are those of f, and of k runs one more
+pub record Runs (s₀ : List Float) (out count e : ℕ) (f : ℕ → Float) (s : List Float) (i k : ℕ) : Type 0 where
   pub within : i ≤ e
-  pub room : count * e ≤ n
-  pub but : But s₀ out n s
+  pub but : But s₀ out (count * e) s
   pub made : (a q : ℕ) → a < count → q < i → s ! (out + (a * e + q)) ≡ f (a * e + q)
   pub more : (a : ℕ) → a < k → s ! (out + (a * e + i)) ≡ f (a * e + i)
 
@@ -63,35 +56,27 @@ module _ {s₀ : List Float} {out n : ℕ} {s : List Float} (b : But s₀ out n 
         side (inl h) q i = inl (omega arith)
         side (inr h) q i = inr (omega arith)
 
-pub but-none : (s₀ : List Float) (out n : ℕ) → But s₀ out n s₀
-but-none s₀ out n = record { long = refl; left = λ q o. refl }
-
-module _ {s₀ : List Float} {out n : ℕ} {f : ℕ → Float} {s : List Float} {i : ℕ} (d : Front s₀ out n f s i) where
-  pub front-all : n ≤ i → out + n ≤ length s₀ → s ≡ put s₀ out (tab f n)
-  front-all h room =
-      ext-getD nan s _ (d .but .long ∙ sym (length-put s₀ out (tab f n))) (λ q l. go q (decLt q out) (decLt q (out + n))) where
-        inside : (r : ℕ) → r < n → put s₀ out (tab f n) ! (out + r) ≡ f r
-        inside r k =
-            sym (getD-part (put s₀ out (tab f n)) out n r nan k)
-            ∙ ap (λ (l : List Float). l ! r) (part-put-same s₀ out (tab f n) n (length-tab f n) room) ∙ getD-tab f n r nan k
-
-        go : (q : ℕ) → Dec (q < out) → Dec (q < out + n) → s ! q ≡ put s₀ out (tab f n) ! q
-        go q (yes k) e = d .but .left q (inl k) ∙ sym (getD-put-above s₀ out (tab f n) q nan k)
-        go q (no k) (yes e) =
-            let r : q ≡ out + (q - out) = omega (arith, k) in
-            let l : q - out < n = omega (arith, k) in
-            subst (λ (j : ℕ). s ! j ≡ put s₀ out (tab f n) ! j) (sym r) (d .made (q - out) (omega arith) ∙ sym (inside (q - out) l))
-        go q (no k) (no e) =
-            let l : out + n ≤ q = omega (arith, e) in
-            d .but .left q (inr l) ∙ sym (getD-put-below s₀ out (tab f n) q nan (omega (arith, length-tab f n)))
+-- where all of them are those of f
+but-all : {s₀ : List Float} {out n : ℕ} {s : List Float} → But s₀ out n s → (f : ℕ → Float) → ((r : ℕ) → r < n → s ! (out + r) ≡ f r) → out + n ≤ length s₀
+    → s ≡ put s₀ out (tab f n)
+but-all {s₀} {out} {n} {s} b f made room =
+    ext-getD nan s _ (b .long ∙ sym (length-put s₀ out (tab f n))) (λ q l. go q (decLt q out) (decLt q (out + n))) where
+      go : (q : ℕ) → Dec (q < out) → Dec (q < out + n) → s ! q ≡ put s₀ out (tab f n) ! q
+      go q (yes k) e = b .left q (inl k) ∙ sym (getD-put-above s₀ out (tab f n) q nan k)
+      go q (no k) (yes e) =
+          let r : q ≡ out + (q - out) = omega (arith, k) in
+          let l : q - out < n = omega (arith, k) in
+          subst (λ (j : ℕ). s ! j ≡ put s₀ out (tab f n) ! j) (sym r) (made (q - out) l ∙ sym (getD-put-tab s₀ out f n (q - out) nan room l))
+      go q (no k) (no e) =
+          let l : out + n ≤ q = omega (arith, e) in
+          b .left q (inr l) ∙ sym (getD-put-below s₀ out (tab f n) q nan (omega (arith, length-tab f n)))
 
 -- ---- in runs
 
-pub runs-none : (s₀ : List Float) (out n count e : ℕ) (f : ℕ → Float) → count * e ≤ n → Runs s₀ out n count e f s₀ 0 0
-runs-none s₀ out n count e f h = record {
+pub runs-none : (s₀ : List Float) (out count e : ℕ) (f : ℕ → Float) → Runs s₀ out count e f s₀ 0 0
+runs-none s₀ out count e f = record {
   within = omega arith;
-  room = h;
-  but = but-none s₀ out n;
+  but = record { long = refl; left = λ q o. refl };
   made = λ a q k l. absurd (omega arith);
   more = λ a l. absurd (omega arith);
 }
@@ -110,15 +95,14 @@ in-runs P (suc count) e h r l = go (in-runs P count e (λ a q i j. h a q (omega 
       let i : count * e + (r - count * e) ≡ r = omega (arith, k) in
       subst P i (h count (r - count * e) (omega arith) (omega (arith, k, suc-mul count e)))
 
-module _ {s₀ : List Float} {out n count e : ℕ} {f : ℕ → Float} {s : List Float} {i k : ℕ} (d : Runs s₀ out n count e f s i k) where
-  pub runs-more : (x : Float) → i < e → k < count → out + n ≤ length s₀ → x ≡ f (k * e + i) → Runs s₀ out n count e f (set s (out + (k * e + i)) x) i (k + 1)
+module _ {s₀ : List Float} {out count e : ℕ} {f : ℕ → Float} {s : List Float} {i k : ℕ} (d : Runs s₀ out count e f s i k) where
+  runs-more : (x : Float) → i < e → k < count → out + count * e ≤ length s₀ → x ≡ f (k * e + i) → Runs s₀ out count e f (set s (out + (k * e + i)) x) i (k + 1)
   runs-more x h l room q =
       let r = k * e + i in
-      let in-range : r < n = omega (arith, run-room count e i k h l, d .room) in
+      let in-range = run-room count e i k h l in
       let there : out + r < length s = omega (arith, d .but .long) in
       record {
         within = d .within;
-        room = d .room;
         but = but-set (d .but) r x in-range;
         made = λ a j u v. set-keeps s out f r x q there (a * e + j) (d .made a j u v);
         more = λ a u. go there a u (decLt a k);
@@ -130,10 +114,9 @@ module _ {s₀ : List Float} {out n count e : ℕ} {f : ℕ → Float} {s : List
             rw w (getD-set-same s (out + (k * e + i)) x nan there ∙ q)
 
   -- every run has its element
-  pub runs-turn : count ≤ k → i < e → Runs s₀ out n count e f s (i + 1) 0
+  runs-turn : count ≤ k → i < e → Runs s₀ out count e f s (i + 1) 0
   runs-turn h l = record {
     within = omega arith;
-    room = d .room;
     but = d .but;
     made = λ a q u v. go a q u v (decLt q i);
     more = λ a u. absurd (omega arith);
@@ -144,20 +127,15 @@ module _ {s₀ : List Float} {out n count e : ℕ} {f : ℕ → Float} {s : List
         let j : q ≡ i = omega (arith, w) in
         rw j (d .more a (omega arith))
 
-  -- the runs are the front
-  pub runs-all : e ≤ i → Front s₀ out n f s (count * e)
-  runs-all h = record {
-    within = d .room;
-    but = d .but;
-    made = in-runs (λ (r : ℕ). s ! (out + r) ≡ f r) count e (λ a q u v. d .made a q u (omega arith));
-  }
+  pub runs-all : e ≤ i → out + count * e ≤ length s₀ → s ≡ put s₀ out (tab f (count * e))
+  runs-all h room = but-all (d .but) f (in-runs (λ (r : ℕ). s ! (out + r) ≡ f r) count e (λ a q u v. d .made a q u (omega arith))) room
 
 -- a turn that writes one element to each run: numbers that lie e from each other
-pub runs-spread : {s₀ : List Float} {out n count e : ℕ} {f : ℕ → Float} {s : List Float} {i : ℕ} → Runs s₀ out n count e f s i 0 → (g : ℕ → Float) (t : List Float)
-    → t ≡ spreadOf s (out + i) e g count → i < e → out + n ≤ length s₀ → ((k : ℕ) → k < count → g k ≡ f (k * e + i)) → Runs s₀ out n count e f t (i + 1) 0
+pub runs-spread : {s₀ : List Float} {out count e : ℕ} {f : ℕ → Float} {s : List Float} {i : ℕ} → Runs s₀ out count e f s i 0 → (g : ℕ → Float) (t : List Float)
+    → t ≡ spreadOf s (out + i) e g count → i < e → out + count * e ≤ length s₀ → ((k : ℕ) → k < count → g k ≡ f (k * e + i)) → Runs s₀ out count e f t (i + 1) 0
 unfolding spreadOf
-runs-spread {s₀} {out} {n} {count} {e} {f} {s} {i} d g t q h room is = rw q (runs-turn (go count (omega arith)) (omega arith) h) where
-  go : (k : ℕ) → k ≤ count → Runs s₀ out n count e f (spreadOf s (out + i) e g k) i k
+runs-spread {s₀} {out} {count} {e} {f} {s} {i} d g t q h room is = rw q (runs-turn (go count (omega arith)) (omega arith) h) where
+  go : (k : ℕ) → k ≤ count → Runs s₀ out count e f (spreadOf s (out + i) e g k) i k
   go zero l = d
   go (suc k) l =
       let at : out + i + k * e ≡ out + (k * e + i) = omega arith in

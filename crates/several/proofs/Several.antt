@@ -56,26 +56,3 @@ several-all {count} {f} {n} {t} s =
 -- of count + 1 vectors that lie `apart` from each other none begins behind the last
 pub few : (k count apart : ℕ) → k < count + 1 → k * apart ≤ count * apart
 few k count apart h = mul-le-mul-right apart (omega arith)
-
--- ---- an array that is written from its first element on
-
-pub record Filled (count : ℕ) (f : ℕ → Float) (t : List Float) (k : ℕ) : Type 0 where
-  pub within : k ≤ count
-  pub long : length t ≡ count
-  pub made : (q : ℕ) → q < k → t ! q ≡ f q
-
-pub filled-none : (count : ℕ) (f : ℕ → Float) (t : List Float) → length t ≡ count → Filled count f t 0
-filled-none count f t l = record { within = omega arith; long = l; made = λ q h. absurd (omega arith) }
-
-pub filled-more : {count : ℕ} {f : ℕ → Float} {t : List Float} {k : ℕ} → Filled count f t k → (x : Float) → k < count → x ≡ f k → Filled count f (set t k x) (k + 1)
-filled-more {f = f} {t} {k} s x h e = record {
-  within = omega arith;
-  long = simp length-set (s .long);
-  made = λ q l.
-      ⊎-elim (λ (i : q ≡ k). rw i (getD-set-same t k x nan (omega arith) ∙ e)) (λ (i : q < k). getD-set-other t k q x nan (ne-of-lt i) ∙ s .made q i)
-      (eq-or-lt-of-le (omega arith));
-}
-
-pub filled-all : {count : ℕ} {f : ℕ → Float} {t : List Float} {k : ℕ} → Filled count f t k → count ≤ k → t ≡ tab f count
-filled-all {count} {f} {t} s h =
-    ext-getD nan t _ (s .long ∙ sym (length-tab f count)) (λ q l. s .made q (omega arith) ∙ sym (getD-tab f count q nan (omega arith)))

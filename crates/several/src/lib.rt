@@ -5,7 +5,7 @@ ghost use Prim.Native.Nat.{_+_, _*_, _≤_, _<_};
 ghost use lib.ListN.{length};
 ghost use Rattle.arrays.specs.Part.{part, put, tab};
 ghost use Rattle.arrays.specs.Sums.{_!_, productOf};
-ghost use Rattle.several.specs.Together.{spreadOf, addedOf, Four};
+ghost use Rattle.several.specs.Several.{spreadOf, addedOf, Four};
 
 // Eight sums of products side by side, so that none waits for another: sum k is of the n elements of x from a + k * apart. Each has its own order, from +0.
 pub fn eight(x: &[f64], a: usize, apart: usize, y: &[f64], b: usize, n: usize) -> [f64; 8]

@@ -21,7 +21,7 @@ use trial::attempt;
 ghost use mathlib.Core.Path.{_≡_};
 ghost use Prim.Native.Nat.{_≤_};
 ghost use Rattle.pause.specs.Paused.{opening, solving, searching, step};
-ghost use Rattle.design.specs.Mode.{Held};
+ghost use Rattle.design_products.specs.Mode.{Held};
 ghost use Rattle.layout.specs.Slots.{Room, vars, rest};
 ghost use Rattle.duality.specs.Gap.{Known};
 ghost use Rattle.lasso_optimizer.specs.Data.{held};

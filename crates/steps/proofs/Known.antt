@@ -14,7 +14,7 @@ use Rattle.settings.specs.declared.Terms.{Terms}
 use Rattle.layout.specs.declared.Sizes.{Sizes}
 use Rattle.layout.specs.Store.{upd}
 use Rattle.layout.specs.Slots.{Store, _⟨_≔_⟩}
-use Rattle.design.specs.Mode.{matvecOf}
+use Rattle.design_products.specs.Mode.{matvecOf}
 use Rattle.line_search.specs.Search.{decreases}
 use Rattle.lasso_optimizer.specs.declared.Scalars.{Scalars}
 use Rattle.lasso_optimizer.specs.Data.{Data, held, storeOf}

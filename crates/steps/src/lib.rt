@@ -12,7 +12,7 @@ ghost use mathlib.Core.Path.{_≡_};
 ghost use Prim.Native.Nat.{_≤_};
 ghost use Rattle.pause.specs.Progress.{run};
 ghost use Rattle.pause.specs.Paused.{step};
-ghost use Rattle.design.specs.Mode.{Held};
+ghost use Rattle.design_products.specs.Mode.{Held};
 ghost use Rattle.layout.specs.Slots.{vars, rest};
 ghost use Rattle.lasso_optimizer.specs.Fit.{parts};
 ghost use Rattle.records.specs.Record.{stateOf, Sane};

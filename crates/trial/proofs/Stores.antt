@@ -16,8 +16,8 @@ use Rattle.layout.specs.declared.Places.{Places}
 use Rattle.layout.specs.Slots.{Store, Has, Laid, vars}
 use Rattle.layout.proofs.Slots.{then}
 use Rattle.layout.specs.Slots.{Slot.W, Slot.U, Slot.NEWW, Slot.NEWU, Slot.F, Slot.NEWF, Slot.DXU, Slot.Y, Slot.NEWZ}
-use Rattle.design.specs.Mode.{matvecOf, Held}
-use Rattle.design.proofs.Lengths.{length-matvec}
+use Rattle.design_products.specs.Mode.{matvecOf, Held}
+use Rattle.design_products.proofs.Lengths.{length-matvec}
 use Rattle.line_search.specs.Search.{facesOf}
 use Rattle.line_search.proofs.Lists.{length-faces}
 use Rattle.lasso_optimizer.specs.Trial.{movedStore, newzStore, takenStore}

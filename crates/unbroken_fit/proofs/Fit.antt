@@ -19,7 +19,7 @@ use Rattle.lazy_normalization.specs.Lazy.{lazyRows, lazyColumns, recipStore}
 use Rattle.lazy_gram.specs.Gram.{lazyGramOf, lazyGramStore}
 use Rattle.design.specs.Statistics.{centresOf, scalesOf, statisticsStore, centredOf, targetsStore}
 use Rattle.design.specs.Eager.{designStore, gramStore}
-use Rattle.design.specs.Mode.{matvecOf, transposedOf}
+use Rattle.design_products.specs.Mode.{matvecOf, transposedOf}
 use Rattle.newton.specs.Newton.{startT}
 use Rattle.pause.specs.Progress.{Progress, then}
 use Rattle.pause.specs.Parts.{Counts as CountsP, none, End}

@@ -24,7 +24,7 @@ use Rattle.layout.specs.Slots.{Slot.W, Slot.U, Slot.F, Slot.D1, Slot.D2, Slot.P
 use Rattle.bg_solver.specs.Solver.{begun}
 use Rattle.inner_solver.specs.Inner.{systemOf, withWork, beginStore, bnrmOf}
 use Rattle.lazy_normalization.specs.Lazy.{lazyRows}
-use Rattle.design.specs.Mode.{matvecOf, transposedOf}
+use Rattle.design_products.specs.Mode.{matvecOf, transposedOf}
 use Rattle.newton.specs.Newton.{nextT, g1Of, gradOf, prsOf, tolerance}
 use Rattle.line_search.specs.Search.{sumlognegOf, phiOf}
 use Rattle.pause.specs.Progress.{Progress, over, going, then}

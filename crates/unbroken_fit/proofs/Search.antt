@@ -15,7 +15,7 @@ use Rattle.layout.specs.declared.Sizes.{Sizes}
 use Rattle.layout.specs.Store.{upd}
 use Rattle.layout.specs.Slots.{Store, _⟨_≔_⟩}
 use Rattle.layout.specs.Slots.{Slot.W, Slot.U, Slot.F, Slot.NEWF, Slot.DXU, Slot.Y}
-use Rattle.design.specs.Mode.{matvecOf}
+use Rattle.design_products.specs.Mode.{matvecOf}
 use Rattle.line_search.specs.Search.{facesOf, largestOf, sumlognegOf, phiOf, decreases}
 use Rattle.pause.specs.Progress.{Progress, over, going}
 use Rattle.pause.specs.Parts.{Tried, accept, halve, trial+, failed, End, end}

@@ -1,6 +1,6 @@
 -- `duality::residuals` meets its contract: one return in a lazy fit, and one where the design is stored. Assumes nothing.
 use native.Mathlib.Omega.{arith}
-use Rattle.design.proofs.Lengths.{held-on}
+use Rattle.design_products.proofs.Lengths.{held-on}
 use Rattle.duality.proofs.Stores.{residuals-left, gradphi-made, gradphi-lazy}
 use Rattle.duality.proofs.residuals.Statement.{statement}
 use Rattle.duality.proofs.residuals.Tie as tie

@@ -1,35 +1,14 @@
 -- `eager_gram::four_rows` meets its contract. The invariant: the first r rows of the lower triangle have four products more, and all else is as it was.
 -- The measure: p - r. Assumes nothing.
-use Prim.Native.Nat.{ℕ, _+_, _-_, _*_, _≤_, _<_}
-use mathlib.Core.Path.{_≡_, refl}
-use mathlib.Core.List.{List}
+use Prim.Native.Nat.{_-_}
+use mathlib.Core.Path.{refl}
 use native.Mathlib.Omega.{arith}
-use lib.Ieee.{Float}
-use Rattle.arrays.specs.Part.{put, tab}
-use Rattle.arrays.specs.Sums.{_!_}
-use Rattle.arrays.proofs.Folds.{fold-ext}
-use Rattle.several.specs.Together.{addedOf}
 use Rattle.matrices.proofs.Lengths.{row-room}
 use Rattle.gram_panels.specs.Panels.{low, carry}
-use Rattle.gram_panels.proofs.Mats.{Striped, striped-none, striped-more, striped-all, beyond-rows}
-use Rattle.eager_gram.specs.Added.{Added}
+use Rattle.gram_panels.proofs.Mats.{Striped, striped-none, striped-all}
+use Rattle.eager_gram.proofs.Added.{row-more}
 use Rattle.eager_gram.proofs.four_rows.Statement.{statement}
 use Rattle.eager_gram.proofs.four_rows.Tie as tie
-
--- row r of the sums, and the rows at `at`, are as they were
-turn : {s₀ : List Float} {g p at : ℕ} {s : List Float} {r : ℕ} → Added s₀ g p at 4 → r < p → Striped s₀ g p low (carry s₀ g p at at p 4) p s r → (t : List Float)
-    → t ≡ put s (g + r * p) (tab (addedOf s (g + r * p) s (λ k. s ! (at + r + k * p)) at p 4) (r + 1))
-    → Striped s₀ g p low (carry s₀ g p at at p 4) p t (r + 1)
-unfolding addedOf carry
-turn {s₀} {g} {p} {at} {s} {r} pre h w t e =
-    let room = row-room r p p h in
-    let same : (q : ℕ) → g + r * p ≤ q → s ! q ≡ s₀ ! q = λ q l. beyond-rows w q (λ z m. omega arith) l in
-    striped-more w (r + 1) _ t h refl
-    (λ c l.
-    rw (same (g + r * p + c) (omega arith)) (fold-ext _ _ _ _ 4 (λ k m.
-    let i : at + r + k * p ≡ at + k * p + r = omega arith in
-    rw (i, same (at + k * p + r) (omega arith), same (at + k * p + c) (omega arith)))))
-    e
 
 abbrev Inv-loop : tie.InvT-loop
 Inv-loop s₀ g p at r₀ s r = Striped s₀ g p low (carry s₀ g p at at p 4) p s r
@@ -67,7 +46,7 @@ loop-again : tie.Need-loop-again Inv-loop μ-loop
 loop-again c =
     let in-loop = c .before .before .before .before in
     let at = in-loop .before in
-    turn (at .before .before .pre) (in-loop .loop-test .taken) (at .loop .inv) _ (c .before .before .add-four .ensures)
+    row-more (at .before .before .pre) (in-loop .loop-test .taken) (at .loop .inv) _ (λ k m. refl) _ (c .before .before .add-four .ensures)
 
 same-length : tie.Need-same-length Inv-loop μ-loop
 same-length c = omega arith

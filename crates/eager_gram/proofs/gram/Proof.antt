@@ -6,7 +6,7 @@ use native.Mathlib.Omega.{arith}
 use lib.ListN.{length}
 use lib.Ieee.{Float, nan}
 use Rattle.arrays.specs.Part.{part, put}
-use Rattle.arrays.proofs.Part.{length-put, getD-part, getD-put-below, put-put-same}
+use Rattle.arrays.proofs.Part.{length-put, getD-part, getD-put-below, getD-put-tab, put-put-same}
 use Rattle.arrays.specs.Sums.{_!_, products, plus0}
 use Rattle.arrays.proofs.Folds.{fold-ext}
 use Rattle.arrays.specs.Vectors.{fillOf}
@@ -18,8 +18,9 @@ use Rattle.layout.specs.declared.Sizes.{Sizes}
 use Rattle.layout.specs.declared.Places.{Places}
 use Rattle.layout.specs.Slots.{Slot.GRAM, Slot.DESIGN, Has, Room, vars, rest, words}
 use Rattle.layout.proofs.Slots.{start, then}
+use Rattle.several.specs.Several.{addedOf}
 use Rattle.gram_panels.specs.Panels.{mat, low, carry, right-of, fromBelow}
-use Rattle.gram_panels.proofs.Mats.{getD-put-tab, mat-ext}
+use Rattle.gram_panels.proofs.Mats.{mat-ext}
 use Rattle.gram_panels.proofs.Square.{mirrored}
 use Rattle.design.specs.Eager.{gramOf, gramStore}
 use Rattle.design.proofs.Gram.{entry-symmetric}
@@ -28,7 +29,7 @@ use Rattle.eager_gram.proofs.gram.Tie as tie
 
 cleared : (s : List Float) (g n i : ℕ) → g + n ≤ length s → i < n → put s g (fillOf plus0 n) ! (g + i) ≡ plus0
 unfolding fillOf
-cleared s g n i room h = getD-put-tab s g (λ j. plus0) n i room h
+cleared s g n i room h = getD-put-tab s g (λ j. plus0) n i nan room h
 
 module _ (s : List Float) (g p at k : ℕ) (above : g + p * p ≤ at) (room : at + k * p ≤ length s) {t : List Float}
     (e : t ≡ put s g (fillOf plus0 (p * p))) where
@@ -49,12 +50,11 @@ module _ (s : List Float) (g p at k : ℕ) (above : g + p * p ≤ at) (room : at
       (getD-put-below s g (fillOf plus0 (p * p)) (at + (i * p + c)) nan (omega (arith, length-fill plus0 (p * p))))
 
   lower : (r c : ℕ) → r < p → c < low r → carry t g p at at p k r c ≡ sum (part s at (k * p)) r c
-  unfolding carry
+  unfolding addedOf carry
   lower r c h l =
       rw (none r c h (omega arith)) (fold-ext _ _ _ _ k (λ i m.
-      let a = row i r m h in
-      let b = row i c m (omega arith) in
-      rw (a, b)))
+      let place : at + r + i * p ≡ at + i * p + r = omega arith in
+      rw (place, row i r m h, row i c m (omega arith))))
 
   whole : (u v : List Float) → u ≡ mat t g p low (carry t g p at at p k) p → v ≡ mat u (g + 1) (p + 1) (right-of p) (fromBelow u g p) p
       → v ≡ put s g (gramOf k p (part s at (k * p)))

@@ -1,38 +1,18 @@
 -- `eager_gram::one_row` meets its contract. The invariant: the first r rows of the lower triangle have one product more, and all else is as it was.
 -- The measure: p - r. Assumes nothing.
-use Prim.Native.Nat.{ℕ, _+_, _-_, _*_, _≤_, _<_}
-use mathlib.Core.Path.{_≡_, refl, sym, _∙_}
-use mathlib.Core.List.{List}
-use native.Mathlib.Nat.{zero-mul}
+use Prim.Native.Nat.{ℕ, _-_}
+use mathlib.Core.Path.{refl, ap, _∙_}
 use native.Mathlib.Omega.{arith}
-use lib.Ieee.{Float, nan}
-use Rattle.numbers.specs.Ops.{_⊕_, _⊗_}
-use Rattle.arrays.specs.Part.{part, put}
-use Rattle.arrays.proofs.Part.{getD-part}
+use Rattle.arrays.specs.Part.{put}
 use Rattle.arrays.specs.Sums.{_!_}
-use Rattle.arrays.proofs.Folds.{fold-none, fold-turn}
-use Rattle.arrays.specs.Vectors.{zipOf}
+use Rattle.several.proofs.Several.{few}
+use Rattle.several.proofs.Added.{added-one}
 use Rattle.matrices.proofs.Lengths.{row-room}
 use Rattle.gram_panels.specs.Panels.{low, carry}
-use Rattle.gram_panels.proofs.Mats.{Striped, striped-none, striped-more, striped-all, beyond-rows}
-use Rattle.eager_gram.specs.Added.{Added}
+use Rattle.gram_panels.proofs.Mats.{Striped, striped-none, striped-all}
+use Rattle.eager_gram.proofs.Added.{row-more}
 use Rattle.eager_gram.proofs.one_row.Statement.{statement}
 use Rattle.eager_gram.proofs.one_row.Tie as tie
-
--- row r of the sums, and the row at `at`, are as they were
-turn : {s₀ : List Float} {g p at : ℕ} {s : List Float} {r : ℕ} → Added s₀ g p at 1 → r < p → Striped s₀ g p low (carry s₀ g p at at p 1) p s r → (t : List Float)
-    → t ≡ put s (g + r * p) (zipOf (λ (v w : Float). v ⊕ s ! (at + r) ⊗ w) (r + 1) (part s (g + r * p) (r + 1)) (part s at (r + 1)))
-    → Striped s₀ g p low (carry s₀ g p at at p 1) p t (r + 1)
-unfolding zipOf carry
-turn {s₀} {g} {p} {at} {s} {r} pre h w t e =
-    let room = row-room r p p h in
-    let first : at + 0 * p ≡ at = omega (arith, zero-mul p) in
-    let same : (q : ℕ) → g + r * p ≤ q → s ! q ≡ s₀ ! q = λ q l. beyond-rows w q (λ z m. omega arith) l in
-    striped-more w (r + 1) _ t h refl
-    (λ c l.
-    fold-turn _ _ _ 0 _ _ (getD-part s (g + r * p) (r + 1) c nan l ∙ same (g + r * p + c) (omega arith) ∙ sym (fold-none _ _ _))
-    (rw (first, getD-part s at (r + 1) c nan l, same (at + r) (omega arith), same (at + c) (omega arith))))
-    e
 
 abbrev Inv-loop : tie.InvT-loop
 Inv-loop s₀ g p at r₀ s r = Striped s₀ g p low (carry s₀ g p at at p 1) p s r
@@ -76,7 +56,9 @@ loop-again : tie.Need-loop-again Inv-loop μ-loop
 loop-again c =
     let in-loop = c .before .before .before .before .before in
     let at = in-loop .before in
-    turn (at .before .before .pre) (in-loop .loop-test .taken) (at .loop .inv) _ (c .before .before .add-scaled .ensures)
+    let start = at .before .before in
+    row-more (start .pre) (in-loop .loop-test .taken) (at .loop .inv) _ (λ k m. ap (λ (a : ℕ). at .loop .s ! a) (omega (arith, few k 0 (start .args .p) m))) _
+    (c .before .before .add-scaled .ensures ∙ ap (put _ _) (added-one _ _ _ _ _ _ _))
 
 same-length : tie.Need-same-length Inv-loop μ-loop
 same-length c = omega arith

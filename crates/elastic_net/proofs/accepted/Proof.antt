@@ -3,8 +3,8 @@ use mathlib.Core.Path.{_≡_, _∙_}
 use lib.ListN.{length}
 use native.Mathlib.Omega.{arith}
 use borrow.Author.Needs.{needs}
-use Rattle.design.specs.Mode.{Held}
-use Rattle.design.proofs.Lengths.{held-on}
+use Rattle.design_products.specs.Mode.{Held}
+use Rattle.design_products.proofs.Lengths.{held-on}
 use Rattle.elastic_net.proofs.Calls.{few-rounds, small, holds, may-end}
 use Rattle.elastic_net.proofs.Ends.{paused, ends}
 use Rattle.elastic_net.proofs.accepted.Statement.{statement}

@@ -7,22 +7,23 @@ use native.Mathlib.Omega.{arith}
 use lib.Ieee.{Float}
 use Rattle.arrays.specs.Part.{put, tab}
 use Rattle.arrays.proofs.Folds.{fold-ext}
+use Rattle.several.specs.Several.{addedOf}
 use Rattle.gram_panels.specs.Panels.{wid, sumAt, carry, Block}
-use Rattle.gram_panels.proofs.Mats.{row-le, Striped, striped-none, striped-more, striped-all, before-rows, beyond-rows}
+use Rattle.matrices.proofs.Lengths.{row-room}
+use Rattle.gram_panels.proofs.Mats.{Striped, striped-none, striped-more, striped-all, before-rows, beyond-rows}
 use Rattle.gram_panels.proofs.block.Statement.{statement}
 use Rattle.gram_panels.proofs.block.Tie as tie
 
 turn : {s₀ : List Float} {g p nj nk d l r cc nr : ℕ} {s s′ : List Float} {a w : ℕ} → Block s₀ g p nj nk d l r cc nr
     → Striped s₀ g p (wid nk d) (carry s₀ g p l r cc nr) nj s a → a < nj → w ≡ wid nk d a
     → s′ ≡ put s (g + a * p) (tab (sumAt s (g + a * p) (l + a) r cc nr) w) → Striped s₀ g p (wid nk d) (carry s₀ g p l r cc nr) nj s′ (a + 1)
-unfolding sumAt carry
+unfolding addedOf carry
 turn {s₀} {g} {p} {nj} {nk} {d} {l} {r} {cc} {nr} {s} {s′} {a} {w} pre t h ew e =
     striped-more t w (sumAt s (g + a * p) (l + a) r cc nr) s′ h ew
     (λ b m.
     rw (beyond-rows t (g + a * p + b) (λ z q. omega arith) (omega arith)) (fold-ext _ _ _ _ nr (λ k q.
-    let u = row-le k nr cc q in
-    let el : l + a + k * cc ≡ l + k * cc + a = omega arith in
-    rw (el, before-rows t (l + k * cc + a) (omega arith), before-rows t (r + k * cc + b) (omega arith))))) e
+    let u = row-room k nr cc q in
+    rw (before-rows t (l + a + k * cc) (omega arith), before-rows t (r + k * cc + b) (omega arith))))) e
 
 abbrev Inv-loop : tie.InvT-loop
 Inv-loop s₀ g p nj nk d l r cc nr a₀ s a = Striped s₀ g p (wid nk d) (carry s₀ g p l r cc nr) nj s a
@@ -46,28 +47,28 @@ mul-entry-row : tie.Need-mul-entry-row Inv-loop μ-loop
 mul-entry-row c =
     let at = c .before .before .before in
     let g = at .before .before .args in
-    let h = row-le (at .loop .a) (g .nj) (g .p) (omega arith) in
+    let h = row-room (at .loop .a) (g .nj) (g .p) (omega arith) in
     omega arith
 
 add-entry-row : tie.Need-add-entry-row Inv-loop μ-loop
 add-entry-row c =
     let at = c .before .before .before in
     let g = at .before .before .args in
-    let h = row-le (at .loop .a) (g .nj) (g .p) (omega arith) in
+    let h = row-room (at .loop .a) (g .nj) (g .p) (omega arith) in
     omega arith
 
 add-entry-row-2 : tie.Need-add-entry-row-2 Inv-loop μ-loop
 add-entry-row-2 c =
     let at = c .before .before .before in
     let g = at .before .before .args in
-    let h = row-le (at .loop .a) (g .nj) (g .p) (omega arith) in
+    let h = row-room (at .loop .a) (g .nj) (g .p) (omega arith) in
     omega arith
 
 entry-row-requires : tie.Need-entry-row-requires Inv-loop μ-loop
 entry-row-requires c κs =
     let at = c .before .before .before in
     let g = at .before .before .args in
-    let h = row-le (at .loop .a) (g .nj) (g .p) (omega arith) in
+    let h = row-room (at .loop .a) (g .nj) (g .p) (omega arith) in
     record { room = omega arith; width = omega arith; left = omega arith; fits = omega arith; right = omega arith }
 
 add-a : tie.Need-add-a Inv-loop μ-loop

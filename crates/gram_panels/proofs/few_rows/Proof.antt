@@ -1,30 +1,18 @@
 -- `gram_panels::few_rows` meets its contract. The invariant: the w sums are those after i rows of the panels, and all else is as it was.
 -- The measure: nr - i. Assumes nothing.
-use mathlib.Core.Path.{_≡_, sym, ap, _∙_}
-use mathlib.Core.List.{List}
+use mathlib.Core.Path.{_≡_, ap, _∙_}
 use Prim.Native.Nat.{ℕ, _-_, _≤_}
-use native.Mathlib.Nat.{add-zero, zero-mul}
 use native.Mathlib.Omega.{arith}
-use lib.Ieee.{Float, nan}
-use Rattle.numbers.specs.Ops.{_⊕_, _⊗_}
-use Rattle.arrays.specs.Part.{part, put, tab}
-use Rattle.arrays.proofs.Part.{tab-ext, getD-part}
+use Rattle.arrays.specs.Part.{put}
 use Rattle.arrays.specs.Sums.{_!_}
-use Rattle.arrays.proofs.Folds.{fold-none, fold-turn}
-use Rattle.arrays.specs.Vectors.{zipOf}
 use Rattle.arrays.proofs.Turns.{Made}
+use Rattle.several.proofs.Several.{few}
+use Rattle.several.proofs.Added.{added-none, added-one}
 use Rattle.gram_panels.specs.Panels.{sumAt}
-use Rattle.gram_panels.proofs.Mats.{row-le}
-use Rattle.gram_panels.proofs.Sums.{sums-none, sums-more}
+use Rattle.matrices.proofs.Lengths.{row-room}
+use Rattle.gram_panels.proofs.Sums.{sums-more}
 use Rattle.gram_panels.proofs.few_rows.Statement.{statement}
 use Rattle.gram_panels.proofs.few_rows.Tie as tie
-
--- what `add_scaled` makes is one row
-one : (s : List Float) (at w l r cc : ℕ) → zipOf (λ (v u : Float). v ⊕ s ! l ⊗ u) w (part s at w) (part s r w) ≡ tab (sumAt s at l r cc 1) w
-unfolding zipOf sumAt
-one s at w l r cc =
-    tab-ext _ _ w (λ b m.
-    fold-turn _ _ _ 0 _ _ (getD-part s at w b nan m ∙ sym (fold-none _ _ _)) (rw (getD-part s r w b nan m, zero-mul, add-zero l, add-zero r)))
 
 abbrev Inv-loop : tie.InvT-loop
 Inv-loop s₀ at w l r cc nr i₀ s i = (i ≤ nr) × Made s₀ at w (sumAt s₀ at l r cc i) s w
@@ -33,48 +21,48 @@ abbrev μ-loop : tie.MeasureT-loop
 μ-loop s₀ at w l r cc nr i₀ s i = nr - i
 
 loop-holds : tie.Need-loop-holds Inv-loop μ-loop
-loop-holds c = (omega arith, sums-none (c .before .pre))
+loop-holds c = (omega arith, added-none _ _ _ _ _ _ _ (c .before .pre .room))
 
 mul-q : tie.Need-mul-q Inv-loop μ-loop
 mul-q c =
     let at = c .before in
     let g = at .before .before .args in
-    let h = row-le (at .loop .i) (g .nr) (g .cc) (omega arith) in
+    let h = row-room (at .loop .i) (g .nr) (g .cc) (omega arith) in
     omega arith
 
 add-v : tie.Need-add-v Inv-loop μ-loop
 add-v c =
     let at = c .before in
     let g = at .before .before .args in
-    let h = row-le (at .loop .i) (g .nr) (g .cc) (omega arith) in
+    let h = row-room (at .loop .i) (g .nr) (g .cc) (omega arith) in
     omega arith
 
 mul-v : tie.Need-mul-v Inv-loop μ-loop
 mul-v c =
     let at = c .before in
     let g = at .before .before .args in
-    let h = row-le (at .loop .i) (g .nr) (g .cc) (omega arith) in
+    let h = row-room (at .loop .i) (g .nr) (g .cc) (omega arith) in
     omega arith
 
 slice-read-v : tie.Need-slice-read-v Inv-loop μ-loop
 slice-read-v c =
     let at = c .before .before in
     let g = at .before .before .args in
-    let h = row-le (at .loop .i) (g .nr) (g .cc) (omega arith) in
+    let h = row-room (at .loop .i) (g .nr) (g .cc) (omega arith) in
     omega arith
 
 add-add-scaled : tie.Need-add-add-scaled Inv-loop μ-loop
 add-add-scaled c =
     let at = c .before .before .before in
     let g = at .before .before .args in
-    let h = row-le (at .loop .i) (g .nr) (g .cc) (omega arith) in
+    let h = row-room (at .loop .i) (g .nr) (g .cc) (omega arith) in
     omega arith
 
 add-scaled-requires : tie.Need-add-scaled-requires Inv-loop μ-loop
 add-scaled-requires c κs =
     let at = c .before .before .before in
     let g = at .before .before .args in
-    let h = row-le (at .loop .i) (g .nr) (g .cc) (omega arith) in
+    let h = row-room (at .loop .i) (g .nr) (g .cc) (omega arith) in
     record { room = omega arith; first = omega arith; second = omega arith; clear = λ l k. omega arith; clear2 = λ l k. omega arith }
 
 add-i : tie.Need-add-i Inv-loop μ-loop
@@ -86,8 +74,12 @@ loop-less c = omega arith
 loop-again : tie.Need-loop-again Inv-loop μ-loop
 loop-again c =
     let at = c .before .before .before .before .before .before in
-    let made = c .before .before .add-scaled .ensures in
-    (omega arith, sums-more (at .before .before .pre) (at .loop .i) 1 (omega arith) (at .loop .inv .1) (made ∙ ap (put _ _) (one _ _ _ _ _ _)))
+    let start = at .before .before in
+    let made = c .before .before .add-scaled .ensures in (
+      omega arith,
+      sums-more (start .pre) (at .loop .i) 1 (omega arith) (at .loop .inv .1) _ (λ k m. ap (λ (a : ℕ). at .loop .s ! a) (omega (arith, few k 0 (start .args .cc) m))) _
+          (made ∙ ap (put _ _) (added-one _ _ _ _ _ _ _)),
+    )
 
 same-length : tie.Need-same-length Inv-loop μ-loop
 same-length c = omega arith

@@ -8,7 +8,8 @@ use native.Mathlib.Omega.{arith}
 use lib.Ieee.{Float}
 use Rattle.arrays.specs.Part.{put, tab}
 use Rattle.gram_panels.specs.Panels.{same, normAt, cell, panelAt, Fill}
-use Rattle.gram_panels.proofs.Mats.{row-le, Striped, striped-none, striped-more, striped-all, before-rows}
+use Rattle.matrices.proofs.Lengths.{row-room}
+use Rattle.gram_panels.proofs.Mats.{Striped, striped-none, striped-more, striped-all, before-rows}
 use Rattle.gram_panels.proofs.fill_panel.Statement.{statement}
 use Rattle.gram_panels.proofs.fill_panel.Tie as tie
 
@@ -44,14 +45,14 @@ mul-fill-row : tie.Need-mul-fill-row Inv-loop μ-loop
 mul-fill-row c =
     let at = c .before in
     let g = at .before .before .before .args in
-    let h = row-le (g .row + at .loop .i) (g .row + g .nr) (g .p) (omega arith) in
+    let h = row-room (g .row + at .loop .i) (g .row + g .nr) (g .p) (omega arith) in
     omega arith
 
 add-fill-row-2 : tie.Need-add-fill-row-2 Inv-loop μ-loop
 add-fill-row-2 c =
     let at = c .before in
     let g = at .before .before .before .args in
-    let h = row-le (g .row + at .loop .i) (g .row + g .nr) (g .p) (omega arith) in
+    let h = row-room (g .row + at .loop .i) (g .row + g .nr) (g .p) (omega arith) in
     omega arith
 
 add-fill-row-3 : tie.Need-add-fill-row-3 Inv-loop μ-loop
@@ -64,22 +65,22 @@ mul-fill-row-2 : tie.Need-mul-fill-row-2 Inv-loop μ-loop
 mul-fill-row-2 c =
     let at = c .before .before in
     let g = at .before .before .before .args in
-    let h = row-le (at .loop .i) (g .nr) (g .cc) (omega arith) in
+    let h = row-room (at .loop .i) (g .nr) (g .cc) (omega arith) in
     omega arith
 
 add-fill-row-5 : tie.Need-add-fill-row-5 Inv-loop μ-loop
 add-fill-row-5 c =
     let at = c .before .before in
     let g = at .before .before .before .args in
-    let h = row-le (at .loop .i) (g .nr) (g .cc) (omega arith) in
+    let h = row-room (at .loop .i) (g .nr) (g .cc) (omega arith) in
     omega arith
 
 fill-row-requires : tie.Need-fill-row-requires Inv-loop μ-loop
 fill-row-requires c κs =
     let at = c .before .before in
     let g = at .before .before .before .args in
-    let h = row-le (at .loop .i) (g .nr) (g .cc) (omega arith) in
-    let k = row-le (g .row + at .loop .i) (g .row + g .nr) (g .p) (omega arith) in
+    let h = row-room (at .loop .i) (g .nr) (g .cc) (omega arith) in
+    let k = row-room (g .row + at .loop .i) (g .row + g .nr) (g .p) (omega arith) in
     record { matrix = omega arith; centres = omega arith; scales = omega arith; room = omega arith }
 
 add-i : tie.Need-add-i Inv-loop μ-loop

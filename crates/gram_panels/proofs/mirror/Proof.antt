@@ -4,13 +4,14 @@ use mathlib.Core.Path.{_≡_, refl, sym, ap, _∙_}
 use Prim.Native.Nat.{ℕ, suc, _+_, _-_, _*_, _≤_, _<_}
 use native.Mathlib.Nat.{mul-add, mul-one, suc-mul, add-mul}
 use native.Mathlib.Omega.{arith}
-use Rattle.gram_panels.proofs.Mats.{row-le, Striped, striped-none, striped-more, striped-all, beyond-rows}
+use Rattle.matrices.proofs.Lengths.{row-room}
+use Rattle.gram_panels.proofs.Mats.{Striped, striped-none, striped-more, striped-all, beyond-rows}
 use Rattle.gram_panels.specs.Panels.{right-of, fromBelow}
 use Rattle.gram_panels.proofs.mirror.Statement.{statement}
 use Rattle.gram_panels.proofs.mirror.Tie as tie
 
 fits : (k p : ℕ) → k < p → (k * (p + 1) + (p + 1) ≤ p * p + p) × (p ≤ p * p)
-fits k p h = (omega (arith, row-le k p (p + 1) h, mul-add p p 1, mul-one p), omega (arith, row-le k p p h))
+fits k p h = (omega (arith, row-room k p (p + 1) h, mul-add p p 1, mul-one p), omega (arith, row-room k p p h))
 
 -- the column below the diagonal ends within the Gram
 room : (k p : ℕ) → k < p → k * (p + 1) + p + (p - (k + 1)) * p ≡ p * p + k

@@ -8,7 +8,7 @@ use lib.Ieee.{Float, nan}
 use Rattle.arrays.specs.Part.{tab}
 use Rattle.arrays.proofs.Part.{length-tab, getD-put-below}
 use Rattle.arrays.proofs.Turns.{Made, made-none, made-more, made-all}
-use Rattle.gram_panels.proofs.Mats.{row-le}
+use Rattle.matrices.proofs.Lengths.{row-room}
 use Rattle.gram_panels.specs.Panels.{across}
 use Rattle.gram_panels.proofs.mirror_row.Statement.{statement}
 use Rattle.gram_panels.proofs.mirror_row.Tie as tie
@@ -33,28 +33,28 @@ mul-s : tie.Need-mul-s Inv-loop μ-loop
 mul-s c =
     let at = c .before in
     let g = at .before .args in
-    let h = row-le (at .loop .b) (g .n) (g .p) (omega arith) in
+    let h = row-room (at .loop .b) (g .n) (g .p) (omega arith) in
     omega arith
 
 add-s : tie.Need-add-s Inv-loop μ-loop
 add-s c =
     let at = c .before in
     let g = at .before .args in
-    let h = row-le (at .loop .b) (g .n) (g .p) (omega arith) in
+    let h = row-room (at .loop .b) (g .n) (g .p) (omega arith) in
     omega arith
 
 mul-s-2 : tie.Need-mul-s-2 Inv-loop μ-loop
 mul-s-2 c =
     let at = c .before in
     let g = at .before .args in
-    let h = row-le (at .loop .b) (g .n) (g .p) (omega arith) in
+    let h = row-room (at .loop .b) (g .n) (g .p) (omega arith) in
     omega arith
 
 slice-read-s : tie.Need-slice-read-s Inv-loop μ-loop
 slice-read-s c =
     let at = c .before .before in
     let g = at .before .args in
-    let h = row-le (at .loop .b) (g .n) (g .p) (omega arith) in
+    let h = row-room (at .loop .b) (g .n) (g .p) (omega arith) in
     omega arith
 
 add-s-2 : tie.Need-add-s-2 Inv-loop μ-loop
@@ -64,14 +64,14 @@ mul-s-3 : tie.Need-mul-s-3 Inv-loop μ-loop
 mul-s-3 c =
     let at = c .before .before in
     let g = at .before .args in
-    let h = row-le (at .loop .b) (g .n) (g .p) (omega arith) in
+    let h = row-room (at .loop .b) (g .n) (g .p) (omega arith) in
     omega arith
 
 slice-write-s : tie.Need-slice-write-s Inv-loop μ-loop
 slice-write-s c =
     let at = c .before .before in
     let g = at .before .args in
-    let h = row-le (at .loop .b) (g .n) (g .p) (omega arith) in
+    let h = row-room (at .loop .b) (g .n) (g .p) (omega arith) in
     omega arith
 
 add-b : tie.Need-add-b Inv-loop μ-loop

@@ -1,16 +1,15 @@
 -- `lazy_columns::add_four` meets its contract. The outer invariant: the first j sums have their four products, and all else is as it was; the inner: t is
 -- sum j with its first k products. The measures: p - j and 4 - k. Assumes nothing.
-use Prim.Native.Nat.{ℕ, _+_, _-_, _*_, _≤_}
+use Prim.Native.Nat.{_+_, _-_, _*_, _≤_}
 use mathlib.Core.Path.{_≡_, refl, sym, ap, _∙_}
 use native.Mathlib.Omega.{arith}
 use Rattle.numbers.specs.Ops.{_⊖_, _⊗_}
 use Rattle.arrays.specs.Part.{put}
 use Rattle.arrays.specs.Sums.{_!_, products}
-use Rattle.arrays.specs.Vectors.{Clear}
 use Rattle.arrays.proofs.Folds.{fold-none, fold-turn}
 use Rattle.several.proofs.Several.{few}
 use Rattle.arrays.proofs.Turns.{Made, made-none, made-all}
-use Rattle.lazy_columns.proofs.ColumnSums.{fourSum, four-more, four-all, clear-of}
+use Rattle.lazy_columns.proofs.ColumnSums.{fourSum, four-more, four-all}
 use Rattle.lazy_columns.proofs.add_four.Statement.{statement}
 use Rattle.lazy_columns.proofs.add_four.Tie as tie
 
@@ -62,20 +61,24 @@ slice-read-t c = omega arith
 loop2-holds : tie.Need-loop2-holds Inv-loop2 μ-loop2 Inv-loop μ-loop
 loop2-holds c = (omega arith, sym (fold-none _ _ _))
 
+-- row k of the four lies no further than the last
+last : (c : tie.In-loop2 Inv-loop2 μ-loop2 Inv-loop μ-loop) → let p = c .before .before .before .before .before .before .before .args .p in c .before .loop2 .k * p ≤ 3 * p
+last c = few _ 3 _ (c .loop2-test .taken)
+
 mul-t-2 : tie.Need-mul-t-2 Inv-loop2 μ-loop2 Inv-loop μ-loop
-mul-t-2 c = omega (arith, few (c .before .loop2 .k) 3 (c .before .before .before .before .before .before .before .args .p) (c .loop2-test .taken))
+mul-t-2 c = omega (arith, last c)
 
 add-t-2 : tie.Need-add-t-2 Inv-loop2 μ-loop2 Inv-loop μ-loop
-add-t-2 c = omega (arith, few (c .before .loop2 .k) 3 (c .before .before .before .before .before .before .before .args .p) (c .loop2-test .taken))
+add-t-2 c = omega (arith, last c)
 
 add-t-3 : tie.Need-add-t-3 Inv-loop2 μ-loop2 Inv-loop μ-loop
-add-t-3 c = omega (arith, few (c .before .loop2 .k) 3 (c .before .before .before .before .before .before .before .args .p) (c .loop2-test .taken))
+add-t-3 c = omega (arith, last c)
 
 mul-t-3 : tie.Need-mul-t-3 Inv-loop2 μ-loop2 Inv-loop μ-loop
-mul-t-3 c = omega (arith, few (c .before .loop2 .k) 3 (c .before .before .before .before .before .before .before .args .p) (c .loop2-test .taken))
+mul-t-3 c = omega (arith, last c)
 
 shared-slice-read-t : tie.Need-shared-slice-read-t Inv-loop2 μ-loop2 Inv-loop μ-loop
-shared-slice-read-t c = omega (arith, few (c .before .before .loop2 .k) 3 (c .before .before .before .before .before .before .before .before .args .p) (c .before .loop2-test .taken))
+shared-slice-read-t c = omega (arith, last (c .before))
 
 mul-t-4 : tie.Need-mul-t-4 Inv-loop2 μ-loop2 Inv-loop μ-loop
 mul-t-4 c = omega arith
@@ -111,13 +114,8 @@ loop-again : tie.Need-loop-again Inv-loop2 μ-loop2 Inv-loop μ-loop
 loop-again c =
     let turn = c .before .before .before .before .before in
     let at = turn .before in
-    let g = at .before .args in
-    let pre = at .before .pre in
-    let l = g .l in
-    let off : (a : ℕ) → l .centre ≤ a → a + g .p ≤ l .recip + g .p → Clear (g .out) a (g .p) = λ a. clear-of _ _ _ _ a (pre .off-columns) in
     let e : c .before .loop2 .k ≡ 4 = omega arith in
-    four-more (g .m .now) (l .centre) (l .recip) (g .i) (g .t4) (turn .loop-test .taken) (off (l .centre) (omega arith) (omega arith))
-    (off (l .recip) (omega arith) (omega arith)) (at .loop .inv) (rw e at (c .before .loop2 .inv .1))
+    four-more (at .before .pre) (at .before .args .t4) (at .loop .inv) (turn .loop-test .taken) (rw e at (c .before .loop2 .inv .1))
 
 same-length : tie.Need-same-length Inv-loop2 μ-loop2 Inv-loop μ-loop
 same-length c = omega arith
@@ -125,10 +123,7 @@ same-length c = omega arith
 returns : tie.Need-returns Inv-loop2 μ-loop2 Inv-loop μ-loop
 returns c =
     let start = c .before .before in
-    let g = start .args in
-    let l = g .l in
-    made-all (c .before .loop .inv) (omega arith)
-    ∙ ap (put _ _) (four-all (g .m .now) (g .s .now) (g .p) (l .centre) (l .scale) (l .recip) (g .out) (g .i) (g .t4) (start .pre .there))
+    made-all (c .before .loop .inv) (omega arith) ∙ ap (put _ _) (four-all (start .pre) (start .args .t4))
 
 pub add-four-spec : {M : Type 1} → statement M
 add-four-spec =

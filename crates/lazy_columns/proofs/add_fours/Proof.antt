@@ -5,8 +5,9 @@ use native.Mathlib.Nat.{add-mul, mul-le-mul-right}
 use native.Mathlib.Omega.{arith}
 use Rattle.arrays.proofs.Scans.{denied, granted}
 use Rattle.arrays.proofs.Turns.{Made, made-all}
-use Rattle.lazy_normalization.specs.Lazy.{lazyAdded}
-use Rattle.lazy_columns.proofs.ColumnSums.{columnSum, columns-none, columns-four, columns-there}
+use Rattle.lazy_normalization.proofs.Entries.{while-made}
+use Rattle.lazy_columns.specs.ColumnSums.{lazyAdded}
+use Rattle.lazy_columns.proofs.ColumnSums.{columnSum, columns-none, columns-four}
 use Rattle.lazy_columns.proofs.add_fours.Statement.{statement}
 use Rattle.lazy_columns.proofs.add_fours.Tie as tie
 
@@ -62,7 +63,7 @@ add-four-requires c κs =
       reciprocals = omega arith;
       room = omega arith;
       off-columns = start .pre .off-columns;
-      there = columns-there (start .pre) (4 * at .loop .i) (omega arith) (at .loop .inv .1) (sym (there .all-there .ensures) ∙ granted _ (at .before .if1 .left));
+      there = rw (while-made (start .pre) (omega arith) (at .loop .inv .1) .reciprocals) (sym (there .all-there .ensures) ∙ granted _ (at .before .if1 .left));
     }
 
 add-i : tie.Need-add-i Inv-loop μ-loop

@@ -1,20 +1,18 @@
 -- `lazy_columns::add_row` meets its contract. The invariant: the first j sums have the row's product added, and all else is as it was.
 -- The measure: p - j. Assumes nothing.
-use Prim.Native.Nat.{ℕ, _+_, _-_, _≤_}
+use Prim.Native.Nat.{_-_}
 use native.Mathlib.Omega.{arith}
 use Rattle.numbers.specs.Ops.{_⊕_, _⊗_}
 use Rattle.arrays.specs.Part.{part}
 use Rattle.arrays.specs.Sums.{_!_}
-use Rattle.arrays.specs.Vectors.{Clear}
 use Rattle.arrays.proofs.Turns.{Made, made-none, made-all}
 use Rattle.lazy_normalization.proofs.Entries.{rowOf}
-use Rattle.lazy_columns.proofs.ColumnSums.{add-more, clear-of}
+use Rattle.lazy_columns.proofs.ColumnSums.{add-more}
 use Rattle.lazy_columns.proofs.add_row.Statement.{statement}
 use Rattle.lazy_columns.proofs.add_row.Tie as tie
 
 abbrev Inv-loop : tie.InvT-loop
-Inv-loop m i at p x s₀ out ce sc rc j₀ s j =
-    Made s₀ out p (λ k. part s₀ out p ! k ⊕ rowOf m s₀ p ce sc rc i k ⊗ x) s j
+Inv-loop m i at p x s₀ out ce sc rc j₀ s j = Made s₀ out p (λ k. part s₀ out p ! k ⊕ rowOf m s₀ p ce sc rc i k ⊗ x) s j
 
 abbrev μ-loop : tie.MeasureT-loop
 μ-loop m i at p x s₀ out ce sc rc j₀ s j = p - j
@@ -89,13 +87,8 @@ loop-again : tie.Need-loop-again Inv-loop μ-loop
 loop-again c =
     let turn = c .before .before .before .before .before .before in
     let at = turn .before in
-    let g = at .before .before .before .args in
-    let pre = at .before .before .before .pre in
-    let l = g .l in
-    let off : (a : ℕ) → l .centre ≤ a → a + g .p ≤ l .recip + g .p → Clear (g .out) a (g .p) = λ a. clear-of _ _ _ _ a (pre .off-columns) in
-    add-more (g .m .now) (l .centre) (l .scale) (l .recip) (g .i) (g .at) (g .x) (pre .start) (turn .loop-test .taken)
-    (off (l .centre) (omega arith) (omega arith)) (off (l .scale) (omega arith) (omega arith)) (off (l .recip) (omega arith) (omega arith))
-    (at .loop .inv) (c .before .normalise .ensures)
+    let start = at .before .before .before in
+    add-more (start .pre) (start .args .x) (at .loop .inv) (turn .loop-test .taken) (c .before .normalise .ensures)
 
 same-length : tie.Need-same-length Inv-loop μ-loop
 same-length c = omega arith

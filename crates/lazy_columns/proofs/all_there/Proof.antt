@@ -7,8 +7,8 @@ use lib.Ieee.{Float, nan, eq}
 use Rattle.arrays.specs.Part.{part}
 use Rattle.arrays.proofs.Part.{getD-part}
 use Rattle.arrays.specs.Sums.{plus0}
-use Rattle.lazy_normalization.specs.Lazy.{allThere}
-use Rattle.lazy_normalization.proofs.Choice.{none-yet, one-missing, one-there}
+use Rattle.lazy_columns.specs.ColumnSums.{allThere}
+use Rattle.lazy_columns.proofs.There.{none-yet, one-missing, one-there}
 use Rattle.lazy_columns.proofs.all_there.Statement.{statement}
 use Rattle.lazy_columns.proofs.all_there.Tie as tie
 

@@ -8,10 +8,11 @@ use native.Mathlib.Nat.{mul-le-mul-right}
 use native.Mathlib.Omega.{arith}
 use lib.ListN.{length}
 use lib.Ieee.{Float}
-use Rattle.arrays.proofs.Turns.{Made}
+use Rattle.arrays.specs.Part.{part}
+use Rattle.arrays.proofs.Turns.{Made, made-of}
 use Rattle.matrices.proofs.Lengths.{row-room, next-row}
-use Rattle.lazy_normalization.specs.Lazy.{allThere}
-use Rattle.lazy_columns.proofs.ColumnSums.{columnSum, columns-from, columns-more, columns-all, columns-end}
+use Rattle.lazy_columns.specs.ColumnSums.{lazyAdded, allThere}
+use Rattle.lazy_columns.proofs.ColumnSums.{columnSum, columns-more, columns-all, columns-end}
 use Rattle.lazy_columns.proofs.columns.Statement.{statement}
 use Rattle.lazy_columns.proofs.columns.Tie as tie
 
@@ -52,8 +53,9 @@ add-fours-requires c κs =
 mul-at : tie.Need-mul-at Inv-loop μ-loop
 mul-at c =
     let fours = c .before .before in
-    let g = fours .before .before .before .before .before .before .before .before .args in
-    let h = fours-within _ _ (g .n) _ (fours .add-fours .ensures .0) in
+    let fill = fours .before .before .before .before in
+    let g = fill .before .before .before .before .args in
+    let h = fours-within (part (fill .fill .last .0) (g .l .recip) (g .p)) _ (g .n) _ (fours .add-fours .ensures .0) in
     omega (arith, mul-le-mul-right (g .p) h)
 
 loop-holds : tie.Need-loop-holds Inv-loop μ-loop
@@ -126,6 +128,7 @@ same-length : tie.Need-same-length Inv-loop μ-loop
 same-length c = omega arith
 
 returns : tie.Need-returns Inv-loop μ-loop
+unfolding lazyAdded
 returns c =
     let at = c .before .before .before .before .before in
     let fours = at .before .before .before in
@@ -133,7 +136,7 @@ returns c =
     let start = fill .before .before .before .before in
     let g = start .args in
     let e : at .loop .i ≡ g .n = omega arith in
-    let f = columns-from (g .m .now) _ (g .p) (g .l) (g .out) (g .v) (g .n + g .p) _ _ (fours .add-fours .ensures .1) in
+    let f = made-of _ _ _ (columnSum (g .m .now) (fill .fill .last .0) (g .p) (g .l) (g .out) (g .v) (g .n + g .p) _) _ (fours .add-fours .ensures .1) in
     let w = at .loop .inv .3 _ f in
     let d = columns-all (start .pre) (at .loop .i) (omega (arith, w .long)) w (g .t) _ (c .before .before .augment .ensures) in
     columns-end (start .pre) (g .t) (fill .fill .ensures) (rw e at d)

@@ -4,7 +4,8 @@ use mathlib.Core.Path.{refl}
 use Prim.Native.Nat.{_+_, _-_, _*_}
 use native.Mathlib.Omega.{arith}
 use Rattle.gram_panels.specs.Panels.{low}
-use Rattle.gram_panels.proofs.Mats.{row-le, Striped, striped-none, striped-more, striped-all, beyond-rows}
+use Rattle.matrices.proofs.Lengths.{row-room}
+use Rattle.gram_panels.proofs.Mats.{Striped, striped-none, striped-more, striped-all, beyond-rows}
 use Rattle.lazy_gram.specs.Nest.{raisedAt}
 use Rattle.lazy_gram.proofs.augment.Statement.{statement}
 use Rattle.lazy_gram.proofs.augment.Tie as tie
@@ -22,21 +23,21 @@ mul-augment-row : tie.Need-mul-augment-row Inv-loop μ-loop
 mul-augment-row c =
     let at = c .before .before in
     let g = at .before .before .args in
-    let h = row-le (at .loop .j) (g .p) (g .p) (omega arith) in
+    let h = row-room (at .loop .j) (g .p) (g .p) (omega arith) in
     omega arith
 
 add-augment-row : tie.Need-add-augment-row Inv-loop μ-loop
 add-augment-row c =
     let at = c .before .before in
     let g = at .before .before .args in
-    let h = row-le (at .loop .j) (g .p) (g .p) (omega arith) in
+    let h = row-room (at .loop .j) (g .p) (g .p) (omega arith) in
     omega arith
 
 augment-row-requires : tie.Need-augment-row-requires Inv-loop μ-loop
 augment-row-requires c κs =
     let at = c .before .before in
     let g = at .before .before .args in
-    let h = row-le (at .loop .j) (g .p) (g .p) (omega arith) in
+    let h = row-room (at .loop .j) (g .p) (g .p) (omega arith) in
     omega arith
 
 add-j : tie.Need-add-j Inv-loop μ-loop

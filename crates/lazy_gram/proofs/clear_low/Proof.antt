@@ -6,7 +6,8 @@ use native.Mathlib.Omega.{arith}
 use Rattle.arrays.specs.Sums.{plus0}
 use Rattle.arrays.specs.Vectors.{fillOf}
 use Rattle.gram_panels.specs.Panels.{low}
-use Rattle.gram_panels.proofs.Mats.{row-le, Striped, striped-none, striped-more, striped-all}
+use Rattle.matrices.proofs.Lengths.{row-room}
+use Rattle.gram_panels.proofs.Mats.{Striped, striped-none, striped-more, striped-all}
 use Rattle.lazy_gram.specs.Nest.{nones}
 use Rattle.lazy_gram.proofs.clear_low.Statement.{statement}
 use Rattle.lazy_gram.proofs.clear_low.Tie as tie
@@ -24,14 +25,14 @@ mul-fill : tie.Need-mul-fill Inv-loop μ-loop
 mul-fill c =
     let at = c .before .before in
     let g = at .before .before .args in
-    let h = row-le (at .loop .j) (g .p) (g .p) (omega arith) in
+    let h = row-room (at .loop .j) (g .p) (g .p) (omega arith) in
     omega arith
 
 add-fill : tie.Need-add-fill Inv-loop μ-loop
 add-fill c =
     let at = c .before .before in
     let g = at .before .before .args in
-    let h = row-le (at .loop .j) (g .p) (g .p) (omega arith) in
+    let h = row-room (at .loop .j) (g .p) (g .p) (omega arith) in
     omega arith
 
 add-fill-2 : tie.Need-add-fill-2 Inv-loop μ-loop
@@ -41,7 +42,7 @@ fill-requires : tie.Need-fill-requires Inv-loop μ-loop
 fill-requires c κs =
     let at = c .before .before in
     let g = at .before .before .args in
-    let h = row-le (at .loop .j) (g .p) (g .p) (omega arith) in
+    let h = row-room (at .loop .j) (g .p) (g .p) (omega arith) in
     omega arith
 
 add-j : tie.Need-add-j Inv-loop μ-loop

@@ -5,7 +5,8 @@ use Prim.Native.Nat.{_+_, _-_, _*_, _≤_}
 use native.Mathlib.Omega.{arith}
 use lib.ListN.{length}
 use Rattle.gram_panels.specs.Panels.{same}
-use Rattle.gram_panels.proofs.Mats.{row-le, length-mat}
+use Rattle.matrices.proofs.Lengths.{row-room}
+use Rattle.gram_panels.proofs.Mats.{length-mat}
 use Rattle.lazy_gram.specs.Nest.{Like, advanced}
 use Rattle.lazy_gram.proofs.Nest.{rows-room, pairs-start, pairs-block, pairs-turn}
 use Rattle.lazy_gram.proofs.pairs.Statement.{statement}
@@ -44,7 +45,7 @@ mul-k c =
     let st = at .before .before .before .before .before in
     let g = st .args in
     let pre = st .pre in
-    let h = row-le (at .loop .kb) (g .jb) (g .pl .cc) (omega arith) in
+    let h = row-room (at .loop .kb) (g .jb) (g .pl .cc) (omega arith) in
     omega arith
 
 fill-panel-requires : tie.Need-fill-panel-requires Inv-loop μ-loop
@@ -53,7 +54,7 @@ fill-panel-requires c κs =
     let st = at .before .before .before .before .before in
     let g = st .args in
     let pre = st .pre in
-    let h = row-le (at .loop .kb) (g .jb) (g .pl .cc) (omega arith) in
+    let h = row-room (at .loop .kb) (g .jb) (g .pl .cc) (omega arith) in
     record {
       matrix = pre .lie .matrix;
       rows = pre .lie .rows;
@@ -70,7 +71,7 @@ add-block c =
     let st = at .before .before .before .before .before in
     let g = st .args in
     let pre = st .pre in
-    let h = row-le (at .loop .kb) (g .jb) (g .pl .cc) (omega arith) in
+    let h = row-room (at .loop .kb) (g .jb) (g .pl .cc) (omega arith) in
     let k = rows-room (g .jb * g .pl .cc) (g .nj) (g .p) (pre .cols) in
     omega arith
 
@@ -80,7 +81,7 @@ sub-block c =
     let st = at .before .before .before .before .before in
     let g = st .args in
     let pre = st .pre in
-    let h = row-le (at .loop .kb) (g .jb) (g .pl .cc) (omega arith) in
+    let h = row-room (at .loop .kb) (g .jb) (g .pl .cc) (omega arith) in
     omega arith
 
 block-requires : tie.Need-block-requires Inv-loop μ-loop

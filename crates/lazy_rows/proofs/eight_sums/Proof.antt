@@ -1,7 +1,7 @@
 -- `lazy_rows::eight_sums` meets its contract. The outer invariant: each of the eight sums has its first j products; the inner, of both branches: the
 -- first k have one more. The measures: p - j and 8 - k. Assumes nothing.
 use Prim.Native.Nat.{ℕ, _+_, _-_, _*_, _≤_}
-use mathlib.Core.Path.{_≡_, refl, sym}
+use mathlib.Core.Path.{_≡_, refl}
 use mathlib.Core.Logic.{⊎-elim}
 use mathlib.Core.List.{List}
 use native.Mathlib.Omega.{arith}
@@ -9,11 +9,11 @@ use lib.Ieee.{Float}
 use Rattle.numbers.specs.Ops.{_⊗_}
 use Rattle.arrays.specs.Part.{part, tab}
 use Rattle.arrays.specs.Sums.{_!_}
-use Rattle.several.proofs.Several.{Several, several-none, several-more, several-turn, several-all, few}
-use Rattle.several.proofs.Rows.{run-row}
+use Rattle.several.proofs.Several.{Several, several-none, several-more, several-turn, several-all}
 use Rattle.lazy_normalization.proofs.Choice.{divided, multiplied}
 use Rattle.lazy_normalization.proofs.Entries.{rowOf}
-use Rattle.lazy_rows.proofs.RowSums.{row-term}
+use Rattle.lazy_rows.specs.RowSums.{RowReads}
+use Rattle.lazy_rows.proofs.RowSums.{row-term, one-of}
 use Rattle.lazy_rows.proofs.eight_sums.Statement.{statement}
 use Rattle.lazy_rows.proofs.eight_sums.Tie as tie
 
@@ -85,6 +85,11 @@ mul-w c = omega arith
 shared-slice-read-w : tie.Need-shared-slice-read-w Inv-loop2 μ-loop2 Inv-loop3 μ-loop3 Inv-loop μ-loop
 shared-slice-read-w c = omega arith
 
+-- the row of sum k, where the column is divided
+row2 : (c : tie.In-loop2 Inv-loop2 μ-loop2 Inv-loop3 μ-loop3 Inv-loop μ-loop) → let g = c .before .before .before .before .before .before .before .before .before .args in
+    RowReads (g .m .now) (c .before .loop2 .k * g .e + g .i) (g .i * g .p + c .before .loop2 .k * (g .e * g .p)) (g .p) (g .s .now) (g .l) (g .v)
+row2 c = one-of (c .before .before .before .before .before .before .before .before .before .pre) _ (c .loop2-test .taken)
+
 loop2-holds : tie.Need-loop2-holds Inv-loop2 μ-loop2 Inv-loop3 μ-loop3 Inv-loop μ-loop
 loop2-holds c = c .before .before .before .before .before .before .loop .inv .1
 
@@ -95,29 +100,19 @@ array-read-x : tie.Need-array-read-x Inv-loop2 μ-loop2 Inv-loop3 μ-loop3 Inv-l
 array-read-x c = omega arith
 
 mul-x-2 : tie.Need-mul-x-2 Inv-loop2 μ-loop2 Inv-loop3 μ-loop3 Inv-loop μ-loop
-mul-x-2 c =
-    let g = c .before .before .before .before .before .before .before .before .before .args in
-    omega (arith, few (c .before .loop2 .k) 7 (g .e * g .p) (c .loop2-test .taken))
+mul-x-2 c = omega (arith, row2 c .row)
 
 add-x : tie.Need-add-x Inv-loop2 μ-loop2 Inv-loop3 μ-loop3 Inv-loop μ-loop
-add-x c =
-    let g = c .before .before .before .before .before .before .before .before .before .args in
-    omega (arith, few (c .before .loop2 .k) 7 (g .e * g .p) (c .loop2-test .taken))
+add-x c = omega (arith, row2 c .row)
 
 add-x-2 : tie.Need-add-x-2 Inv-loop2 μ-loop2 Inv-loop3 μ-loop3 Inv-loop μ-loop
-add-x-2 c =
-    let g = c .before .before .before .before .before .before .before .before .before .args in
-    omega (arith, few (c .before .loop2 .k) 7 (g .e * g .p) (c .loop2-test .taken))
+add-x-2 c = omega (arith, row2 c .row)
 
 mul-x-3 : tie.Need-mul-x-3 Inv-loop2 μ-loop2 Inv-loop3 μ-loop3 Inv-loop μ-loop
-mul-x-3 c =
-    let g = c .before .before .before .before .before .before .before .before .before .args in
-    omega (arith, few (c .before .loop2 .k) 7 (g .e * g .p) (c .loop2-test .taken))
+mul-x-3 c = omega (arith, row2 c .row)
 
 shared-slice-read-x : tie.Need-shared-slice-read-x Inv-loop2 μ-loop2 Inv-loop3 μ-loop3 Inv-loop μ-loop
-shared-slice-read-x c =
-    let g = c .before .before .before .before .before .before .before .before .before .before .args in
-    omega (arith, few (c .before .before .loop2 .k) 7 (g .e * g .p) (c .before .loop2-test .taken))
+shared-slice-read-x c = omega (arith, row2 (c .before) .row)
 
 mul-x-4 : tie.Need-mul-x-4 Inv-loop2 μ-loop2 Inv-loop3 μ-loop3 Inv-loop μ-loop
 mul-x-4 c = omega arith
@@ -135,13 +130,13 @@ loop2-again : tie.Need-loop2-again Inv-loop2 μ-loop2 Inv-loop3 μ-loop3 Inv-loo
 loop2-again c =
     let at = c .before .before in
     let turn = at .before .before .before .before .before .before in
-    let j = turn .before .loop .j in
-    let g = turn .before .before .args in
-    let l = g .l in
-    let k = at .loop2 .k in
     several-more (at .loop2 .inv) _ (c .before .loop2-test .taken)
-    (row-term (g .m .now) (g .s .now) (g .p) (l .centre) (l .scale) (l .recip) (g .v) (k * g .e + g .i) _ j (sym (run-row k (g .e) (g .i) (g .p))) (turn .loop-test .taken)
-    (divided _ _ _ _ (at .before .if1 .taken)))
+    (row-term (row2 (c .before)) (turn .before .loop .j) (turn .loop-test .taken) (divided _ _ _ _ (at .before .if1 .taken)))
+
+-- and where it is multiplied
+row3 : (c : tie.In-loop3 Inv-loop2 μ-loop2 Inv-loop3 μ-loop3 Inv-loop μ-loop) → let g = c .before .before .before .before .before .before .before .before .before .args in
+    RowReads (g .m .now) (c .before .loop3 .k * g .e + g .i) (g .i * g .p + c .before .loop3 .k * (g .e * g .p)) (g .p) (g .s .now) (g .l) (g .v)
+row3 c = one-of (c .before .before .before .before .before .before .before .before .before .pre) _ (c .loop3-test .taken)
 
 loop3-holds : tie.Need-loop3-holds Inv-loop2 μ-loop2 Inv-loop3 μ-loop3 Inv-loop μ-loop
 loop3-holds c = c .before .before .before .before .before .before .loop .inv .1
@@ -153,29 +148,19 @@ array-read-x-2 : tie.Need-array-read-x-2 Inv-loop2 μ-loop2 Inv-loop3 μ-loop3 I
 array-read-x-2 c = omega arith
 
 mul-x-6 : tie.Need-mul-x-6 Inv-loop2 μ-loop2 Inv-loop3 μ-loop3 Inv-loop μ-loop
-mul-x-6 c =
-    let g = c .before .before .before .before .before .before .before .before .before .args in
-    omega (arith, few (c .before .loop3 .k) 7 (g .e * g .p) (c .loop3-test .taken))
+mul-x-6 c = omega (arith, row3 c .row)
 
 add-x-3 : tie.Need-add-x-3 Inv-loop2 μ-loop2 Inv-loop3 μ-loop3 Inv-loop μ-loop
-add-x-3 c =
-    let g = c .before .before .before .before .before .before .before .before .before .args in
-    omega (arith, few (c .before .loop3 .k) 7 (g .e * g .p) (c .loop3-test .taken))
+add-x-3 c = omega (arith, row3 c .row)
 
 add-x-4 : tie.Need-add-x-4 Inv-loop2 μ-loop2 Inv-loop3 μ-loop3 Inv-loop μ-loop
-add-x-4 c =
-    let g = c .before .before .before .before .before .before .before .before .before .args in
-    omega (arith, few (c .before .loop3 .k) 7 (g .e * g .p) (c .loop3-test .taken))
+add-x-4 c = omega (arith, row3 c .row)
 
 mul-x-7 : tie.Need-mul-x-7 Inv-loop2 μ-loop2 Inv-loop3 μ-loop3 Inv-loop μ-loop
-mul-x-7 c =
-    let g = c .before .before .before .before .before .before .before .before .before .args in
-    omega (arith, few (c .before .loop3 .k) 7 (g .e * g .p) (c .loop3-test .taken))
+mul-x-7 c = omega (arith, row3 c .row)
 
 shared-slice-read-x-2 : tie.Need-shared-slice-read-x-2 Inv-loop2 μ-loop2 Inv-loop3 μ-loop3 Inv-loop μ-loop
-shared-slice-read-x-2 c =
-    let g = c .before .before .before .before .before .before .before .before .before .before .args in
-    omega (arith, few (c .before .before .loop3 .k) 7 (g .e * g .p) (c .before .loop3-test .taken))
+shared-slice-read-x-2 c = omega (arith, row3 (c .before) .row)
 
 mul-x-8 : tie.Need-mul-x-8 Inv-loop2 μ-loop2 Inv-loop3 μ-loop3 Inv-loop μ-loop
 mul-x-8 c = omega arith
@@ -193,13 +178,8 @@ loop3-again : tie.Need-loop3-again Inv-loop2 μ-loop2 Inv-loop3 μ-loop3 Inv-loo
 loop3-again c =
     let at = c .before .before in
     let turn = at .before .before .before .before .before .before in
-    let j = turn .before .loop .j in
-    let g = turn .before .before .args in
-    let l = g .l in
-    let k = at .loop3 .k in
     several-more (at .loop3 .inv) _ (c .before .loop3-test .taken)
-    (row-term (g .m .now) (g .s .now) (g .p) (l .centre) (l .scale) (l .recip) (g .v) (k * g .e + g .i) _ j (sym (run-row k (g .e) (g .i) (g .p))) (turn .loop-test .taken)
-    (multiplied _ _ _ _ (at .before .if1 .left)))
+    (row-term (row3 (c .before)) (turn .before .loop .j) (turn .loop-test .taken) (multiplied _ _ _ _ (at .before .if1 .left)))
 
 add-j : tie.Need-add-j Inv-loop2 μ-loop2 Inv-loop3 μ-loop3 Inv-loop μ-loop
 add-j c = omega arith

@@ -4,9 +4,9 @@ use mathlib.Core.Path.{_≡_, sym}
 use native.Mathlib.Omega.{arith}
 use Rattle.arrays.specs.Part.{part}
 use Rattle.arrays.specs.Sums.{_!_, products, plus0}
-use Rattle.arrays.proofs.Folds.{fold-none}
+use Rattle.arrays.proofs.Folds.{fold-none, fold-turn}
 use Rattle.lazy_normalization.proofs.Entries.{rowOf}
-use Rattle.lazy_rows.proofs.RowSums.{row-more}
+use Rattle.lazy_rows.proofs.RowSums.{row-term}
 use Rattle.lazy_rows.proofs.row_sum.Statement.{statement}
 use Rattle.lazy_rows.proofs.row_sum.Tie as tie
 
@@ -77,12 +77,9 @@ loop-again : tie.Need-loop-again Inv-loop μ-loop
 loop-again c =
     let turn = c .before .before .before .before .before .before in
     let at = turn .before in
-    let start = at .before .before .before in
-    let g = start .args in
-    let l = g .l in (
+    let start = at .before .before .before in (
       omega arith,
-      row-more (g .m .now) (g .s .now) (g .p) (l .centre) (l .scale) (l .recip) (g .v) (g .i) (g .at) (at .loop .j) (start .pre .start)
-          (turn .loop-test .taken) (at .loop .inv .1) (c .before .normalise .ensures),
+      fold-turn _ _ _ _ _ _ (at .loop .inv .1) (row-term (start .pre) (at .loop .j) (turn .loop-test .taken) (c .before .normalise .ensures)),
     )
 
 returns : tie.Need-returns Inv-loop μ-loop

@@ -8,10 +8,11 @@ use native.Mathlib.Omega.{arith}
 use lib.ListN.{length, length-set}
 use lib.Ieee.{Float}
 use Rattle.numbers.specs.Ops.{_⊗_}
-use Rattle.arrays.proofs.Turns.{Made}
+use Rattle.arrays.proofs.Turns.{Made, made-first}
 use Rattle.matrices.proofs.Lengths.{row-room, next-row}
 use Rattle.lazy_normalization.specs.Lazy.{lazyRows}
-use Rattle.lazy_rows.proofs.RowSums.{rowSum, rows-from, rows-more, rows-all}
+use Rattle.lazy_rows.specs.RowSums.{lazySums}
+use Rattle.lazy_rows.proofs.RowSums.{rowSum, rows-more, rows-all}
 use Rattle.lazy_rows.proofs.rows.Statement.{statement}
 use Rattle.lazy_rows.proofs.rows.Tie as tie
 
@@ -109,13 +110,12 @@ same-length : tie.Need-same-length Inv-loop μ-loop
 same-length c = omega arith
 
 returns : tie.Need-returns Inv-loop μ-loop
-unfolding lazyRows
+unfolding lazyRows lazySums
 returns c =
     let at = c .before .before .before .before .before in
     let start = at .before .before .before .before .before .before .before in
-    let g = start .args in
-    let d = rows-from (g .m .now) (g .n) (g .p) (g .t) (g .s .now) _ (g .l) (g .v) (g .out) _ (omega arith) (at .before .before .before .eighths .ensures) in
-    rows-all (start .pre) (g .t) (at .loop .inv .2 (g .s .now) d) _ (omega arith) (c .before .before .times .ensures)
+    let d = at .loop .inv .2 _ (made-first _ _ _ _ _ _ (omega arith) (at .before .before .before .eighths .ensures)) in
+    rows-all (start .pre) (start .args .t) d _ (omega arith) (c .before .before .times .ensures)
 
 pub rows-spec : {M : Type 1} → statement M
 rows-spec =

@@ -5,7 +5,7 @@ use mathlib.Core.Path.{_≡_, ap}
 use native.Mathlib.Nat.{add-mul}
 use native.Mathlib.Omega.{arith}
 use Rattle.arrays.specs.Sums.{_!_}
-use Rattle.several.specs.Together.{Four}
+use Rattle.several.specs.Several.{Four}
 use Rattle.arrays.proofs.Turns.{Made}
 use Rattle.several.proofs.Added.{added-none}
 use Rattle.matrices.proofs.Lengths.{rows-room}

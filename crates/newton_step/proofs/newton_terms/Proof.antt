@@ -1,7 +1,7 @@
 -- `newton_step::newton_terms` meets its contract. Assumes nothing.
 use native.Mathlib.Omega.{arith}
 use Rattle.layout.proofs.Slots.{next, vars-of}
-use Rattle.design.proofs.Lengths.{held-on}
+use Rattle.design_products.proofs.Lengths.{held-on}
 use Rattle.lasso_optimizer.specs.Opening.{gradientStore, preconditionerStore, newtonStore}
 use Rattle.newton_step.proofs.Stores.{after-barrier}
 use Rattle.newton_step.proofs.newton_terms.Statement.{statement}

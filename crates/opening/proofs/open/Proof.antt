@@ -4,7 +4,7 @@ use mathlib.Core.Path.{_≡_, _∙_}
 use native.Mathlib.Omega.{arith}
 use lib.ListN.{length}
 use Rattle.layout.proofs.Slots.{vars-of}
-use Rattle.design.proofs.Lengths.{held-on}
+use Rattle.design_products.proofs.Lengths.{held-on}
 use Rattle.opening.proofs.Returns.{open-done, open-fails, open-ready}
 use Rattle.opening.proofs.open.Statement.{statement}
 use Rattle.opening.proofs.open.Tie as tie

@@ -4,18 +4,18 @@ use mathlib.Core.Path.{refl}
 use native.Mathlib.Omega.{arith}
 use Rattle.numbers.specs.Ops.{_⊕_}
 use Rattle.arrays.specs.Sums.{_!_}
-use Rattle.several.proofs.Several.{Filled, filled-none, filled-more, filled-all}
+use Rattle.arrays.proofs.Turns.{Made, made-none, array-more, array-all}
 use Rattle.prediction.proofs.finish.Statement.{statement}
 use Rattle.prediction.proofs.finish.Tie as tie
 
 abbrev Inv-loop : tie.InvT-loop
-Inv-loop b t r₀ k₀ r k = Filled 8 (λ q. t ! q ⊕ b) r k
+Inv-loop b t r₀ k₀ r k = Made r₀ 0 8 (λ q. t ! q ⊕ b) r k
 
 abbrev μ-loop : tie.MeasureT-loop
 μ-loop b t r₀ k₀ r k = 8 - k
 
 loop-holds : tie.Need-loop-holds Inv-loop μ-loop
-loop-holds c = filled-none 8 _ _ refl
+loop-holds c = made-none _ _ _ _
 
 mul-canonical : tie.Need-mul-canonical Inv-loop μ-loop
 mul-canonical c = omega arith
@@ -41,10 +41,10 @@ loop-less c = omega arith
 loop-again : tie.Need-loop-again Inv-loop μ-loop
 loop-again c =
     let at = c .before .before in
-    filled-more (at .loop .inv) _ (c .before .loop-test .taken) (c .canonical .ensures)
+    array-more (at .loop .inv) _ (c .before .loop-test .taken) (c .canonical .ensures)
 
 returns : tie.Need-returns Inv-loop μ-loop
-returns c = filled-all (c .before .loop .inv) (omega arith)
+returns c = array-all (c .before .loop .inv) (omega arith) refl
 
 pub finish-spec : {M : Type 1} → statement M
 finish-spec =

@@ -2,7 +2,7 @@
 use Prim.Native.Nat.{_-_, _*_}
 use native.Mathlib.Nat.{zero-add, suc-mul, mul-le-mul-right}
 use native.Mathlib.Omega.{arith}
-use Rattle.several.proofs.Runs.{Runs, runs-none, runs-spread, runs-all, front-all}
+use Rattle.several.proofs.Runs.{Runs, runs-none, runs-spread, runs-all}
 use Rattle.several.proofs.Rows.{run-rows}
 use Rattle.prediction.specs.Predict.{predictedOf}
 use Rattle.prediction.proofs.EachRow.{one, of-eight}
@@ -10,7 +10,7 @@ use Rattle.prediction.proofs.runs.Statement.{statement}
 use Rattle.prediction.proofs.runs.Tie as tie
 
 abbrev Inv-loop : tie.InvT-loop
-Inv-loop e p x w b out₀ apart i₀ out i = Runs out₀ 0 (8 * e) 8 e (one p x w b) out i 0
+Inv-loop e p x w b out₀ apart i₀ out i = Runs out₀ 0 8 e (one p x w b) out i 0
 
 abbrev μ-loop : tie.MeasureT-loop
 μ-loop e p x w b out₀ apart i₀ out i = e - i
@@ -21,7 +21,7 @@ mul-apart c =
     omega (arith, run-rows (g .e) (g .p))
 
 loop-holds : tie.Need-loop-holds Inv-loop μ-loop
-loop-holds c = runs-none _ _ _ 8 _ _ (omega arith)
+loop-holds c = runs-none _ _ 8 _ _
 
 mul-eight : tie.Need-mul-eight Inv-loop μ-loop
 mul-eight c =
@@ -64,7 +64,7 @@ same-length c = c .before .loop .inv .but .long
 
 returns : tie.Need-returns Inv-loop μ-loop
 unfolding predictedOf
-returns c = front-all (runs-all (c .before .loop .inv) (omega arith)) (omega arith) (omega arith)
+returns c = runs-all (c .before .loop .inv) (omega arith) (omega arith)
 
 pub runs-spec : {M : Type 1} → statement M
 runs-spec =

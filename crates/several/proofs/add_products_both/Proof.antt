@@ -4,7 +4,7 @@ use Prim.Native.Nat.{ℕ, _+_, _-_, _≤_}
 use mathlib.Core.Path.{_≡_, refl, ap, _∙_}
 use native.Mathlib.Omega.{arith}
 use Rattle.arrays.specs.Sums.{_!_}
-use Rattle.several.specs.Together.{addedOf}
+use Rattle.several.specs.Several.{addedOf}
 use Rattle.several.proofs.Several.{few}
 use Rattle.arrays.proofs.Turns.{Made, made-none, made-more, made-all}
 use Rattle.several.proofs.Added.{still, added-kept, added-first, added-more}

@@ -4,18 +4,19 @@ use Prim.Native.Nat.{_+_, _-_, _*_}
 use mathlib.Core.Path.{refl}
 use native.Mathlib.Omega.{arith}
 use Rattle.arrays.specs.Sums.{_!_}
-use Rattle.several.proofs.Several.{Filled, filled-none, filled-more, filled-all, few}
+use Rattle.arrays.proofs.Turns.{Made, made-none, array-more, array-all}
+use Rattle.several.proofs.Several.{few}
 use Rattle.several.proofs.four_at.Statement.{statement}
 use Rattle.several.proofs.four_at.Tie as tie
 
 abbrev Inv-loop : tie.InvT-loop
-Inv-loop s a apart x₀ k₀ x k = Filled 4 (λ i. s ! (a + i * apart)) x k
+Inv-loop s a apart x₀ k₀ x k = Made x₀ 0 4 (λ i. s ! (a + i * apart)) x k
 
 abbrev μ-loop : tie.MeasureT-loop
 μ-loop s a apart x₀ k₀ x k = 4 - k
 
 loop-holds : tie.Need-loop-holds Inv-loop μ-loop
-loop-holds c = filled-none 4 _ _ refl
+loop-holds c = made-none _ _ _ _
 
 mul-x : tie.Need-mul-x Inv-loop μ-loop
 mul-x c = omega (arith, few (c .before .loop .k) 3 (c .before .before .args .apart) (c .loop-test .taken))
@@ -42,10 +43,10 @@ loop-less : tie.Need-loop-less Inv-loop μ-loop
 loop-less c = omega arith
 
 loop-again : tie.Need-loop-again Inv-loop μ-loop
-loop-again c = filled-more (c .before .before .loop .inv) _ (c .before .loop-test .taken) refl
+loop-again c = array-more (c .before .before .loop .inv) _ (c .before .loop-test .taken) refl
 
 returns : tie.Need-returns Inv-loop μ-loop
-returns c = filled-all (c .before .loop .inv) (omega arith)
+returns c = array-all (c .before .loop .inv) (omega arith) refl
 
 pub four-at-spec : {M : Type 1} → statement M
 four-at-spec =

@@ -6,7 +6,7 @@ use native.Mathlib.Numerals.{add-one}
 use native.Mathlib.Omega.{arith}
 use lib.ListN.{length, length-set}
 use Rattle.arrays.specs.Sums.{_!_}
-use Rattle.several.specs.Together.{spreadOf}
+use Rattle.several.specs.Several.{spreadOf}
 use Rattle.several.proofs.Several.{few}
 use Rattle.several.proofs.put_eight.Statement.{statement}
 use Rattle.several.proofs.put_eight.Tie as tie

@@ -1,7 +1,7 @@
 -- `stages::solving_step` meets its contract: the search begins where the solver stops, or after round 4,999. Assumes nothing.
 use borrow.Author.Needs.{needs}
 use Rattle.pause.specs.Parts.{solver+}
-use Rattle.design.proofs.Lengths.{held-on}
+use Rattle.design_products.proofs.Lengths.{held-on}
 use Rattle.records.specs.Record.{countsOf}
 use Rattle.stages.proofs.Moves.{solving-again, solving-last, solving-stop}
 use Rattle.stages.proofs.solving_step.Statement.{statement}

@@ -3,7 +3,7 @@
 use native.Mathlib.Omega.{arith}
 use borrow.Author.Needs.{needs}
 use mathlib.Core.Path.{refl}
-use Rattle.design.proofs.Lengths.{held-on}
+use Rattle.design_products.proofs.Lengths.{held-on}
 use Rattle.steps.proofs.Known.{unknown}
 use Rattle.steps.proofs.Loop.{Running, went-on, stopped, spent}
 use Rattle.steps.proofs.run_steps.Statement.{statement}

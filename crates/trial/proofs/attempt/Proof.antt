@@ -1,6 +1,6 @@
 -- `trial::attempt` meets its contract: one return where the new point is inside, by `decide`, and one where the step is halved. Assumes nothing.
 use borrow.Author.Needs.{needs}
-use Rattle.design.proofs.Lengths.{held-on}
+use Rattle.design_products.proofs.Lengths.{held-on}
 use Rattle.trial.proofs.Returns.{inside, outside}
 use Rattle.trial.proofs.attempt.Statement.{statement}
 use Rattle.trial.proofs.attempt.Tie as tie

@@ -8,7 +8,7 @@ use lib.Ieee.{Float, nan}
 use Rattle.arrays.specs.Part.{part, tab}
 use Rattle.arrays.proofs.Part.{getD-tab}
 use Rattle.arrays.specs.Sums.{_!_}
-use Rattle.several.specs.Together.{spreadOf}
+use Rattle.several.specs.Several.{spreadOf}
 use Rattle.arrays.proofs.Turns.{Made, made-none, made-more, made-self, made-again, made-all, part-kept}
 use Rattle.several.proofs.Runs.{made-spread}
 use Rattle.matrices.specs.Products.{columnProduct, columnsOf}

@@ -8,7 +8,7 @@ use lib.Ieee.{Float, nan}
 use Rattle.arrays.specs.Part.{part}
 use Rattle.arrays.proofs.Part.{getD-part}
 use Rattle.arrays.specs.Sums.{_!_}
-use Rattle.several.proofs.Runs.{Runs, runs-none, runs-all, front-all, but-kept}
+use Rattle.several.proofs.Runs.{Runs, runs-none, runs-all, but-kept}
 use Rattle.several.proofs.Rows.{run-rows}
 use Rattle.matrices.specs.Products.{rowProduct, rowsOf}
 use Rattle.matrices.proofs.Lengths.{row-room, next-row}
@@ -18,7 +18,7 @@ use Rattle.matrices.proofs.products.runs.Tie as tie
 
 abbrev Inv-loop : tie.InvT-loop
 Inv-loop s₀ mat e cols v out apart at₀ i₀ s at i =
-    (at ≡ mat + i * cols) × Runs s₀ out (8 * e) 8 e (rowProduct (part s₀ mat (8 * e * cols)) cols (part s₀ v cols)) s i 0
+    (at ≡ mat + i * cols) × Runs s₀ out 8 e (rowProduct (part s₀ mat (8 * e * cols)) cols (part s₀ v cols)) s i 0
 
 abbrev μ-loop : tie.MeasureT-loop
 μ-loop s₀ mat e cols v out apart at₀ i₀ s at i = e - i
@@ -27,7 +27,7 @@ mul-apart : tie.Need-mul-apart Inv-loop μ-loop
 mul-apart c = omega (arith, run-rows (c .before .args .e) (c .before .args .cols))
 
 loop-holds : tie.Need-loop-holds Inv-loop μ-loop
-loop-holds c = (omega arith, runs-none _ _ _ 8 _ _ (omega arith))
+loop-holds c = (omega arith, runs-none _ _ 8 _ _)
 
 eight-requires : tie.Need-eight-requires Inv-loop μ-loop
 eight-requires c κs =
@@ -77,7 +77,7 @@ same-length c = c .before .loop .inv .1 .but .long
 
 returns : tie.Need-returns Inv-loop μ-loop
 unfolding rowsOf
-returns c = front-all (runs-all (c .before .loop .inv .1) (omega arith)) (omega arith) (omega arith)
+returns c = runs-all (c .before .loop .inv .1) (omega arith) (omega arith)
 
 pub runs-spec : {M : Type 1} → statement M
 runs-spec =

@@ -5,7 +5,7 @@ use mathlib.Core.Path.{_≡_}
 use native.Mathlib.Nat.{zero-add}
 use native.Mathlib.Omega.{arith}
 use Rattle.arrays.specs.Part.{part}
-use Rattle.several.proofs.Runs.{Runs, runs-none, runs-all, front-all, but-kept}
+use Rattle.several.proofs.Runs.{Runs, runs-none, runs-all, but-kept}
 use Rattle.several.proofs.Rows.{run-rows}
 use Rattle.matrices.specs.Products.{rowProduct, rowsOf}
 use Rattle.matrices.proofs.Lengths.{row-room, next-row}
@@ -14,7 +14,7 @@ use Rattle.matrices.proofs.products.runs_of.Statement.{statement}
 use Rattle.matrices.proofs.products.runs_of.Tie as tie
 
 abbrev Inv-loop : tie.InvT-loop
-Inv-loop m e cols s₀ v out apart at₀ i₀ s at i = (at ≡ 0 + i * cols) × Runs s₀ out (8 * e) 8 e (rowProduct m cols (part s₀ v cols)) s i 0
+Inv-loop m e cols s₀ v out apart at₀ i₀ s at i = (at ≡ 0 + i * cols) × Runs s₀ out 8 e (rowProduct m cols (part s₀ v cols)) s i 0
 
 abbrev μ-loop : tie.MeasureT-loop
 μ-loop m e cols s₀ v out apart at₀ i₀ s at i = e - i
@@ -23,7 +23,7 @@ mul-apart : tie.Need-mul-apart Inv-loop μ-loop
 mul-apart c = omega (arith, run-rows (c .before .before .args .e) (c .before .before .args .cols))
 
 loop-holds : tie.Need-loop-holds Inv-loop μ-loop
-loop-holds c = (omega arith, runs-none _ _ _ 8 _ _ (omega arith))
+loop-holds c = (omega arith, runs-none _ _ 8 _ _)
 
 eight-requires : tie.Need-eight-requires Inv-loop μ-loop
 eight-requires c κs =
@@ -70,7 +70,7 @@ same-length c = c .before .loop .inv .1 .but .long
 
 returns : tie.Need-returns Inv-loop μ-loop
 unfolding rowsOf
-returns c = front-all (runs-all (c .before .loop .inv .1) (omega arith)) (omega arith) (omega arith)
+returns c = runs-all (c .before .loop .inv .1) (omega arith) (omega arith)
 
 pub runs-of-spec : {M : Type 1} → statement M
 runs-of-spec =

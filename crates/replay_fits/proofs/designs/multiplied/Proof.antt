@@ -6,7 +6,7 @@ use Prim.Native.Nat.{_+_, _≤_}
 use Rattle.layout.specs.declared.Sizes.{Sizes}
 use Rattle.layout.specs.declared.Places.{Places}
 use Rattle.layout.specs.Slots.{Laid}
-use Rattle.design.proofs.Lengths.{held-on}
+use Rattle.design_products.proofs.Lengths.{held-on}
 use Rattle.checks.specs.Checks.{Accepted}
 use Rattle.checks.proofs.Laws.{fine-of, accepted}
 use Rattle.elastic_net.proofs.Calls.{small, holds}

@@ -1,8 +1,8 @@
--- `design::mode::matvec` meets its contract. Assumes nothing.
+-- `design_products::matvec` meets its contract. Assumes nothing.
 use borrow.Author.Needs.{needs}
-use Rattle.design.proofs.Modes.{upward, stored-upward, lazy-rows, stored-rows}
-use Rattle.design.proofs.mode.matvec.Statement.{statement}
-use Rattle.design.proofs.mode.matvec.Tie as tie
+use Rattle.design_products.proofs.Modes.{upward, stored-upward, lazy-rows, stored-rows}
+use Rattle.design_products.proofs.matvec.Statement.{statement}
+use Rattle.design_products.proofs.matvec.Tie as tie
 
 rows-requires : tie.Need-rows-requires
 rows-requires c κs =

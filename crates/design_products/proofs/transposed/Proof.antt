@@ -1,8 +1,8 @@
--- `design::mode::transposed` meets its contract. Assumes nothing.
+-- `design_products::transposed` meets its contract. Assumes nothing.
 use borrow.Author.Needs.{needs}
-use Rattle.design.proofs.Modes.{downward, stored-downward, lazy-columns, stored-columns}
-use Rattle.design.proofs.mode.transposed.Statement.{statement}
-use Rattle.design.proofs.mode.transposed.Tie as tie
+use Rattle.design_products.proofs.Modes.{downward, stored-downward, lazy-columns, stored-columns}
+use Rattle.design_products.proofs.transposed.Statement.{statement}
+use Rattle.design_products.proofs.transposed.Tie as tie
 
 columns-requires : tie.Need-columns-requires
 columns-requires c κs =

@@ -1,10 +1,10 @@
--- `design::mode::transposed_both` meets its contract: the places are those of two single products. Assumes nothing.
+-- `design_products::transposed_both` meets its contract: the places are those of two single products. Assumes nothing.
 use mathlib.Core.Path.{ap, _∙_}
 use native.Mathlib.Omega.{arith}
 use Rattle.arrays.specs.Part.{put}
-use Rattle.design.proofs.Modes.{stored-downward, stored-product, stored-columns}
-use Rattle.design.proofs.mode.transposed_both.Statement.{statement}
-use Rattle.design.proofs.mode.transposed_both.Tie as tie
+use Rattle.design_products.proofs.Modes.{stored-downward, stored-product, stored-columns}
+use Rattle.design_products.proofs.transposed_both.Statement.{statement}
+use Rattle.design_products.proofs.transposed_both.Tie as tie
 
 columns-both-requires : tie.Need-columns-both-requires
 columns-both-requires c κs =

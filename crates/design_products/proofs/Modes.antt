@@ -13,7 +13,7 @@ use Rattle.layout.specs.declared.Places.{Places}
 use Rattle.layout.specs.Slots.{vars}
 use Rattle.layout.specs.Slots.{Slot.DESIGN}
 use Rattle.lazy_normalization.specs.Lazy.{lazyRows, lazyColumns, Reads}
-use Rattle.design.specs.Mode.{matvecOf, transposedOf, Held}
+use Rattle.design_products.specs.Mode.{matvecOf, transposedOf, Held}
 
 -- a product of the transposed stored design
 pub stored-product : {sh : Sizes} {l : Places} {m s : List Float} (h : Held sh l m s) (v : ℕ) (t : Terms) → sh .lazy ≡ false

@@ -8,7 +8,7 @@ ghost use Prim.Native.Nat.{_+_, _≤_};
 ghost use lib.ListN.{length};
 ghost use Rattle.arrays.specs.Part.{part, put};
 ghost use Rattle.layout.specs.Slots.{vars};
-ghost use Rattle.design.specs.Mode.{matvecOf, transposedOf, Held};
+ghost use Rattle.design_products.specs.Mode.{matvecOf, transposedOf, Held};
 
 // The design times the vector at v, from the stored design or, in a lazy fit, from the lent matrix. v lies below the columns' numbers and the output between
 // the Gram and the stored design, so that nothing which is read is overwritten.
