@@ -3,20 +3,21 @@
 use mathlib.Core.Path.{_≡_, refl, sym, ap, _∙_}
 use mathlib.Core.List.{List, [], _∷_}
 use Prim.Native.Nat.{ℕ, _+_, _-_, _*_, _≤_, _<_}
-use native.Mathlib.Nat.{add-mul}
 use native.Mathlib.Omega.{arith}
 use lib.ListN.{length, set, length-set}
 use lib.Ieee.{Float, nan}
-use Rattle.numbers.specs.Ops.{_⊕_, _⊖_, _⊗_, _⊘_}
+use Rattle.numbers.specs.Ops.{_⊖_, _⊗_, _⊘_}
 use Rattle.numbers.specs.Root.{rootOf}
 use Rattle.arrays.specs.Part.{part, put, tab}
 use Rattle.arrays.proofs.Part.{tab-ext, getD-part, length-tab, length-put, put-put-same, put-comm}
 use Rattle.arrays.proofs.Part.{put-tab-none, put-tab-more, getD-put-above, getD-put-below, getD-put-tab, put-self}
 use Rattle.arrays.specs.Sums.{_!_, sumTo, products, plus0, whole}
-use Rattle.arrays.proofs.Folds.{fold-none, fold-turn, fold-ext, fold-on}
+use Rattle.arrays.proofs.Folds.{fold-ext}
 use Rattle.arrays.specs.Vectors.{fillOf, mapOf, zipOf}
+use Rattle.several.specs.Several.{gathered}
+use Rattle.several.proofs.Added.{gathered-none, gathered-on}
 use Rattle.column_moments.specs.Stats.{column, columnMeanOf, varianceOf, deviationOf}
-use Rattle.column_moments.specs.Added.{gathered, itself, square, rowsAdded}
+use Rattle.column_moments.specs.Added.{itself, squared, rowsAdded}
 
 -- s is s₀ with the first n elements of f at a, and behind them those of g at b
 pub record Pair (s₀ : List Float) (a b n : ℕ) (f g : ℕ → Float) (s : List Float) : Type 0 where
@@ -25,7 +26,7 @@ pub record Pair (s₀ : List Float) (a b n : ℕ) (f g : ℕ → Float) (s : Lis
   pub long : length s ≡ length s₀
   pub is : s ≡ put (put s₀ a (tab f n)) b (tab g n)
 
-pub pair-of : {s₀ : List Float} {a b n : ℕ} {f g : ℕ → Float} → a + n ≤ b → b + n ≤ length s₀ → (t s : List Float) → t ≡ put s₀ a (tab f n)
+pair-of : {s₀ : List Float} {a b n : ℕ} {f g : ℕ → Float} → a + n ≤ b → b + n ≤ length s₀ → (t s : List Float) → t ≡ put s₀ a (tab f n)
     → s ≡ put t b (tab g n) → Pair s₀ a b n f g s
 pair-of apart room t s e1 e2 = record { apart = apart; room = room; long = rw (e2, length-put, e1, length-put); is = rw (e2, e1) }
 
@@ -105,92 +106,72 @@ pair-over {a = a} {n = n} {h = h} {k} {s} {t} p e = second-again (first-again p 
 -- ---- rows added to the sums
 
 -- the sums at a and b with `count` rows added
-abbrev pub Sums : List Float → ℕ → ℕ → List Float → ℕ → ℕ → ℕ → List Float → Type 0
-Sums s₀ a b m at cols count s = Pair s₀ a b cols (gathered itself s₀ a m at cols count) (gathered square s₀ b m at cols count) s
-
--- a loop over the rows of one column: none, and one more
-pub gathered-none : (f : Float → Float) (s : List Float) (out : ℕ) (m : List Float) (at cols j : ℕ) → s ! (out + j) ≡ gathered f s out m at cols 0 j
-unfolding gathered
-gathered-none f s out m at cols j = sym (fold-none _ _ _)
-
-pub gathered-more : (f : Float → Float) (s : List Float) (out : ℕ) (m : List Float) (at cols k j : ℕ) (t x : Float) → t ≡ gathered f s out m at cols k j
-    → x ≡ f (m ! (at + k * cols + j)) → t ⊕ x ≡ gathered f s out m at cols (k + 1) j
-unfolding gathered
-gathered-more f s out m at cols k j t x e ex = fold-turn _ _ _ k t x e ex
-
-pub gathered-one : (f : Float → Float) (s : List Float) (out : ℕ) (m : List Float) (at cols j : ℕ) → s ! (out + j) ⊕ f (m ! (at + j)) ≡ gathered f s out m at cols 1 j
-gathered-one f s out m at cols j =
-    let same : at + j ≡ at + 0 * cols + j = omega arith in
-    gathered-more f s out m at cols 0 j _ _ (gathered-none f s out m at cols j) (ap (λ (r : ℕ). f (m ! r)) same)
+abbrev pub WithRows : List Float → ℕ → ℕ → List Float → ℕ → ℕ → ℕ → List Float → Type 0
+WithRows s₀ a b m at cols count s = Pair s₀ a b cols (gathered itself s₀ a m at cols count) (gathered squared s₀ b m at cols count) s
 
 -- a turn of a loop over the columns
 pub column-added : {s₀ : List Float} {a b j : ℕ} {s : List Float} (m : List Float) (at cols count : ℕ)
-    → Pair s₀ a b j (gathered itself s₀ a m at cols count) (gathered square s₀ b m at cols count) s → a + j < b → b + j < length s₀ → {x y : Float}
-    → x ≡ gathered itself s a m at cols count j → y ≡ gathered square s b m at cols count j
-    → Pair s₀ a b (j + 1) (gathered itself s₀ a m at cols count) (gathered square s₀ b m at cols count) (set (set s (a + j) x) (b + j) y)
+    → Pair s₀ a b j (gathered itself s₀ a m at cols count) (gathered squared s₀ b m at cols count) s → a + j < b → b + j < length s₀ → {x y : Float}
+    → x ≡ gathered itself s a m at cols count j → y ≡ gathered squared s b m at cols count j
+    → Pair s₀ a b (j + 1) (gathered itself s₀ a m at cols count) (gathered squared s₀ b m at cols count) (set (set s (a + j) x) (b + j) y)
 unfolding gathered
 column-added m at cols count p apart room {x} {y} ex ey =
     pair-more p apart room x y (rw (first-left p apart room) at ex) (rw (second-left p apart room) at ey)
 
--- all columns
-pub sums-of : {s₀ : List Float} {a b : ℕ} (m : List Float) (at cols count : ℕ) → a + cols ≤ b → b + cols ≤ length s₀ → (s : List Float)
-    → s ≡ rowsAdded s₀ a b m at cols count → Sums s₀ a b m at cols count s
+-- what `rowsAdded` makes
+with-rows : {s₀ : List Float} {a b : ℕ} (m : List Float) (at cols count : ℕ) → a + cols ≤ b → b + cols ≤ length s₀ → (s : List Float)
+    → s ≡ rowsAdded s₀ a b m at cols count → WithRows s₀ a b m at cols count s
 unfolding rowsAdded
-sums-of m at cols count apart room s e = pair-of apart room _ s refl e
+with-rows m at cols count apart room s e = pair-of apart room _ s refl e
 
 -- a loop over the rows: none, and `count` more
-pub sums-none : (s : List Float) (a b : ℕ) (m : List Float) (at cols : ℕ) → a + cols ≤ b → b + cols ≤ length s → Sums s a b m at cols 0 s
-unfolding gathered
-sums-none s a b m at cols apart room =
-    pair-of apart room s s (sym (put-self s a _ cols nan (omega arith) (λ j l. fold-none _ _ _))) (sym (put-self s b _ cols nan room (λ j l. fold-none _ _ _)))
+pub rows-none : (s : List Float) (a b : ℕ) (m : List Float) (at cols : ℕ) → a + cols ≤ b → b + cols ≤ length s → WithRows s a b m at cols 0 s
+rows-none s a b m at cols apart room =
+    pair-of apart room s s (sym (put-self s a _ cols nan (omega arith) (λ j l. sym (gathered-none itself s a m at cols j))))
+    (sym (put-self s b _ cols nan room (λ j l. sym (gathered-none squared s b m at cols j))))
 
-pub sums-on : {s₀ : List Float} {a b : ℕ} (m : List Float) (at cols i count : ℕ) {s : List Float} → Sums s₀ a b m at cols i s → (t : List Float) (place : ℕ)
-    → place ≡ at + i * cols → t ≡ rowsAdded s a b m place cols count → Sums s₀ a b m at cols (i + count) t
-unfolding gathered rowsAdded
-sums-on {s₀} {a} {b} m at cols i count {s} p t place e q =
-    pair-over p (q ∙ ap (λ (r : List Float). put (put s a r) b (tab (gathered square s b m place cols count) cols)) (tab-ext _ _ cols (λ j l. on itself a j (first-at p j l)))
-    ∙ ap (put (put s a (tab (gathered itself s₀ a m at cols (i + count)) cols)) b) (tab-ext _ _ cols (λ j l. on square b j (second-at p j l)))) where
-      on : (f : Float → Float) (out j : ℕ) → s ! (out + j) ≡ gathered f s₀ out m at cols i j
-          → gathered f s out m place cols count j ≡ gathered f s₀ out m at cols (i + count) j
-      on f out j begun =
-          rw begun (fold-ext _ _ _ _ count (λ k l.
-          let same : place + k * cols + j ≡ at + (i + k) * cols + j = omega (arith, add-mul i k cols) in
-          ap (λ (r : ℕ). f (m ! r)) same)
-          ∙ fold-on _ _ _ i count)
+pub rows-on : {s₀ : List Float} {a b : ℕ} (m : List Float) (at cols i count : ℕ) {s : List Float} → WithRows s₀ a b m at cols i s → (t : List Float) (place : ℕ)
+    → place ≡ at + i * cols → t ≡ rowsAdded s a b m place cols count → WithRows s₀ a b m at cols (i + count) t
+unfolding rowsAdded
+rows-on {s₀} {a} {b} m at cols i count {s} p t place e q =
+    pair-over p (q ∙ ap (λ (r : List Float). put (put s a r) b (tab (gathered squared s b m place cols count) cols))
+    (tab-ext _ _ cols (λ j l. gathered-on itself itself s₀ s a m m at cols i count j (first-at p j l) (λ k h. refl) place e))
+    ∙ ap (put (put s a (tab (gathered itself s₀ a m at cols (i + count)) cols)) b)
+    (tab-ext _ _ cols (λ j l. gathered-on squared squared s₀ s b m m at cols i count j (second-at p j l) (λ k h. refl) place e)))
 
 -- ---- the columns' sums over all rows
 
-abbrev pub sums : List Float → ℕ → ℕ → ℕ → Float
-sums m cols i j = sumTo plus0 (column m cols j) i
+abbrev columnSum : List Float → ℕ → ℕ → ℕ → Float
+columnSum m cols rows j = sumTo plus0 (column m cols j) rows
 
-abbrev pub squares : List Float → ℕ → ℕ → ℕ → Float
-squares m cols i j = products plus0 (column m cols j) (column m cols j) i
+abbrev columnSquares : List Float → ℕ → ℕ → ℕ → Float
+columnSquares m cols rows j = products plus0 (column m cols j) (column m cols j) rows
 
 -- over sums of +0: the first n rows, and the others
-pub summed : {s₀ : List Float} {a b cols : ℕ} (m : List Float) (rows n : ℕ) → n ≤ rows → a + cols ≤ b → b + cols ≤ length s₀ → (s₁ s₂ s₃ s₄ : List Float)
+pub all-rows : {s₀ : List Float} {a b cols : ℕ} (m : List Float) (rows n : ℕ) → n ≤ rows → a + cols ≤ b → b + cols ≤ length s₀ → (s₁ s₂ s₃ s₄ : List Float)
     → s₁ ≡ put s₀ a (fillOf plus0 cols) → s₂ ≡ put s₁ b (fillOf plus0 cols) → s₃ ≡ rowsAdded s₂ a b m 0 cols n → s₄ ≡ rowsAdded s₃ a b m (n * cols) cols (rows - n)
-    → Pair s₀ a b cols (sums m cols rows) (squares m cols rows) s₄
+    → Pair s₀ a b cols (columnSum m cols rows) (columnSquares m cols rows) s₄
 unfolding fillOf gathered
-summed {s₀} {a} {b} {cols} m rows n h apart room s₁ s₂ s₃ s₄ e1 e2 e3 e4 =
+all-rows {s₀} {a} {b} {cols} m rows n h apart room s₁ s₂ s₃ s₄ e1 e2 e3 e4 =
     let p : Pair s₀ a b cols (λ k. plus0) (λ k. plus0) s₂ = pair-of apart room s₁ s₂ e1 e2 in
-    let first = sums-of m 0 cols n apart (omega (arith, p .long)) s₃ e3 in
-    let all = sums-on m 0 cols n (rows - n) first s₄ (n * cols) (omega arith) e4 in
+    let first = with-rows m 0 cols n apart (omega (arith, p .long)) s₃ e3 in
+    let all = rows-on m 0 cols n (rows - n) first s₄ (n * cols) (omega arith) e4 in
     let e : n + (rows - n) ≡ rows = omega arith in
     pair-over p (rw e at (all .is)
-    ∙ ap (λ (r : List Float). put (put s₂ a r) b (tab (gathered square s₂ b m 0 cols rows) cols)) (tab-ext _ _ cols (λ j l. from-none itself a j (first-at p j l)))
-    ∙ ap (put (put s₂ a (tab (sums m cols rows) cols)) b) (tab-ext _ _ cols (λ j l. from-none square b j (second-at p j l)))) where
-      from-none : (f : Float → Float) (out j : ℕ) → s₂ ! (out + j) ≡ plus0 → gathered f s₂ out m 0 cols rows j ≡ sumTo plus0 (λ i. f (column m cols j i)) rows
+    ∙ ap (λ (r : List Float). put (put s₂ a r) b (tab (gathered squared s₂ b m 0 cols rows) cols)) (tab-ext _ _ cols (λ j l. from-none itself a j (first-at p j l)))
+    ∙ ap (put (put s₂ a (tab (columnSum m cols rows) cols)) b) (tab-ext _ _ cols (λ j l. from-none squared b j (second-at p j l)))) where
+      from-none : (f : ℕ → Float → Float) (out j : ℕ) → s₂ ! (out + j) ≡ plus0 → gathered f s₂ out m 0 cols rows j ≡ sumTo plus0 (λ i. f i (column m cols j i)) rows
       from-none f out j begun =
           rw begun (fold-ext _ _ _ _ rows (λ k l.
           let same : 0 + k * cols + j ≡ k * cols + j = omega arith in
-          ap (λ (r : ℕ). f (m ! r)) same))
+          ap (λ (r : ℕ). f k (m ! r)) same))
 
 -- ---- what is made of them
 
 module _ {s₀ : List Float} {a b : ℕ} (m : List Float) (rows cols : ℕ) (d : Float) (e : d ≡ whole rows) {s : List Float}
-    (p : Pair s₀ a b cols (sums m cols rows) (squares m cols rows) s) where
+    (p : Pair s₀ a b cols (columnSum m cols rows) (columnSquares m cols rows) s) where
   means-made : (t : List Float) → t ≡ put s a (mapOf (λ (v : Float). v ⊘ d) cols (part s a cols))
-      → Pair s₀ a b cols (columnMeanOf m rows cols) (squares m cols rows) t
+      → Pair s₀ a b cols (columnMeanOf m rows cols) (columnSquares m cols rows) t
   unfolding mapOf columnMeanOf
   means-made t et =
       first-again p (columnMeanOf m rows cols) t (et ∙ ap (put s a) (tab-ext _ _ cols (λ j l. rw (e, getD-part s a cols j nan l, first-at p j l))))

@@ -5,16 +5,16 @@ use mathlib.Core.List.{List, _++_}
 use Prim.Native.Nat.{ℕ, _+_, _≤_, _<_}
 use native.Mathlib.Nat.{zero-add}
 use native.Mathlib.Omega.{arith}
-use lib.ListN.{length, set, drop}
+use lib.ListN.{length, drop}
 use lib.Seq.{sets-eq}
 use lib.Ieee.{Float, nan}
 use Rattle.numbers.specs.Ops.{_⊖_, _⊗_}
-use Rattle.arrays.specs.Part.{part, put, tab}
-use Rattle.arrays.proofs.Part.{length-part, length-tab, getD-part, part-all, put-all}
+use Rattle.arrays.specs.Part.{part, put}
+use Rattle.arrays.proofs.Part.{length-part, getD-part, part-all, put-all}
 use Rattle.arrays.specs.Sums.{_!_, plus0, meanOf, productOf}
 use Rattle.arrays.specs.Vectors.{mapOf, fillOf}
 use Rattle.arrays.proofs.Lengths.{length-fill}
-use Rattle.arrays.proofs.Turns.{Made, kept, made-more, made-all}
+use Rattle.arrays.proofs.Turns.{Made, kept}
 use Rattle.layout.specs.declared.Sizes.{Sizes}
 use Rattle.layout.specs.declared.Places.{Places}
 use Rattle.layout.specs.Slots.{vars, rest, words}
@@ -25,12 +25,6 @@ module _ {w₀ w : List Float} {p i : ℕ} {f : ℕ → Float} (m : Made w₀ 0 
   -- an element that is still to be written
   pub unwritten : i < p → w ! i ≡ w₀ ! i
   unwritten h = rw (zero-add i) at (kept m 0 h (λ l k. refl) ∙ getD-part w₀ 0 p i nan h)
-
-  pub written-more : (x : Float) → i < p → x ≡ f i → Made w₀ 0 p f (set w i x) (i + 1)
-  written-more x h e = rw (zero-add i) at (made-more m x h e)
-
-  pub written-all : p ≤ i → length w₀ ≡ p → w ≡ tab f p
-  written-all h l = made-all m h ∙ put-all w₀ (tab f p) (length-tab f p ∙ sym l)
 
 -- a slice overwritten from its start
 pub wiped : (sh : Sizes) (need : ℕ) (s s′ : List Float) → need ≡ words sh → need ≤ length s → s′ ≡ put s 0 (fillOf plus0 need) → s′ ≡ gone sh (rest sh s)

@@ -16,7 +16,7 @@ use Rattle.matrices.proofs.Lengths.{row-room}
 use Rattle.gram_panels.proofs.Mats.{put-tab-tab, mat-in, mat-ext, mat-put}
 
 -- the lower triangle and the upper are the square
-pub square : (s : List Float) (ga p : ℕ) (f : ℕ → ℕ → Float) (n : ℕ) → n ≤ p
+square : (s : List Float) (ga p : ℕ) (f : ℕ → ℕ → Float) (n : ℕ) → n ≤ p
     → mat (mat s ga p low f n) (ga + 1) (p + 1) (right-of p) (λ k b. f k (k + 1 + b)) n ≡ mat s ga p (same p) f n
 unfolding mat
 square s ga p f zero h = refl
@@ -36,7 +36,7 @@ square s ga p f (suc n) h =
     ∙ ap (λ (i : ℕ). put T q (tab (f n) i)) e2
 
 -- rows without a gap are a grid
-pub mat-grid : (s : List Float) (at p : ℕ) (f : ℕ → ℕ → Float) (n : ℕ) → mat s at p (same p) f n ≡ put s at (grid f n p)
+mat-grid : (s : List Float) (at p : ℕ) (f : ℕ → ℕ → Float) (n : ℕ) → mat s at p (same p) f n ≡ put s at (grid f n p)
 unfolding mat grid
 mat-grid s at p f zero = sym (put-none s at)
 mat-grid s at p f (suc n) =

@@ -26,9 +26,9 @@ abbrev pub columnSum : List Float → List Float → ℕ → Places → ℕ → 
 columnSum m s p l out v nv i j = products (part s out p ! j) (λ k. design m s p l k j) (λ k. part s v nv ! k) i
 
 -- the numbers of column j, beside the sums, are as they were
-column : {s₀ s : List Float} {out p : ℕ} {f : ℕ → Float} {j : ℕ} → Made s₀ out p f s j → j < p → (l : Places) → (out < l .recip + p → out + p ≤ l .centre)
+column-kept : {s₀ s : List Float} {out p : ℕ} {f : ℕ → Float} {j : ℕ} → Made s₀ out p f s j → j < p → (l : Places) → (out < l .recip + p → out + p ≤ l .centre)
     → (a : ℕ) → l .centre ≤ a → a ≤ l .recip → s ! (a + j) ≡ part s₀ a p ! j
-column d h l off a u w = kept d a h (λ x y. absurd (omega (arith, off (omega arith))))
+column-kept d h l off a u w = kept d a h (λ x y. absurd (omega (arith, off (omega arith))))
 
 -- sum j gets its product with row i
 pub add-more : {m : List Float} {i at p : ℕ} {s₀ : List Float} {l : Places} {out : ℕ} → RowAdds m i at p s₀ l out → (x : Float) {s : List Float} {j : ℕ} {y : Float}
@@ -36,9 +36,9 @@ pub add-more : {m : List Float} {i at p : ℕ} {s₀ : List Float} {l : Places} 
     → y ≡ normalised (m ! (at + j)) (s ! (l .centre + j)) (s ! (l .scale + j)) (s ! (l .recip + j))
     → Made s₀ out p (λ k. part s₀ out p ! k ⊕ design m s₀ p l i k ⊗ x) (set s (out + j) (s ! (out + j) ⊕ y ⊗ x)) (j + 1)
 add-more {l = l} {out} r x d h n =
-    let ec = column d h l (r .off-columns) (l .centre) (omega arith) (omega arith) in
-    let es = column d h l (r .off-columns) (l .scale) (omega arith) (omega arith) in
-    let eb = column d h l (r .off-columns) (l .recip) (omega arith) (omega arith) in
+    let ec = column-kept d h l (r .off-columns) (l .centre) (omega arith) (omega arith) in
+    let es = column-kept d h l (r .off-columns) (l .scale) (omega arith) (omega arith) in
+    let eb = column-kept d h l (r .off-columns) (l .recip) (omega arith) (omega arith) in
     made-more d _ h (rw (n, r .start, ec, es, eb, kept d out h (λ _ _. refl)))
 
 -- column j of the rows i to i + 3, multiplied and not divided, times the numbers of xs, added to sum j in turn
@@ -51,8 +51,8 @@ module _ {m : List Float} {i p : ℕ} {s₀ : List Float} {l : Places} {out : �
       → t ≡ products (s ! (out + j)) (λ a. (m ! (i * p + a * p + j) ⊖ s ! (l .centre + j)) ⊗ s ! (l .recip + j)) (λ a. xs ! a) 4
       → Made s₀ out p (fourSum m s₀ p (l .centre) (l .recip) out i xs) (set s (out + j) t) (j + 1)
   four-more d h e =
-      let ec = column d h l (r .off-columns) (l .centre) (omega arith) (omega arith) in
-      let eb = column d h l (r .off-columns) (l .recip) (omega arith) (omega arith) in
+      let ec = column-kept d h l (r .off-columns) (l .centre) (omega arith) (omega arith) in
+      let eb = column-kept d h l (r .off-columns) (l .recip) (omega arith) (omega arith) in
       made-more d _ h (e ∙ rw (kept d out h (λ _ _. refl), ec, eb) (fold-ext _ _ _ _ 4 (λ a _. rw (add-mul i a p))))
 
   -- they are those of the design, since no reciprocal is missing

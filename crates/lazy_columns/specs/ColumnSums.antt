@@ -1,4 +1,4 @@
--- The sums to which rows are added, one or four at a time. Inner definitions: no promise names them.
+-- The column sums, whether every reciprocal is there, and what the functions that add one row, or four, ask. Inner definitions: no promise names them.
 use mathlib.Core.Path.{_≡_}
 use mathlib.Core.Bool.{Bool, true, false, cond}
 use mathlib.Core.List.{List}

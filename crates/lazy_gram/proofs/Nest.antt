@@ -10,7 +10,7 @@ use lib.Ieee.{Float}
 use Rattle.arrays.specs.Sums.{_!_}
 use Rattle.arrays.proofs.Folds.{fold-none}
 use Rattle.gram_panels.specs.Panels.{mat, least, same, wid, cell, panelAt, carry, Block, low}
-use Rattle.matrices.proofs.Lengths.{row-room}
+use Rattle.matrices.proofs.Lengths.{row-room, rows-room}
 use Rattle.gram_panels.proofs.Mats.{ends, length-mat, mat-below, mat-beyond, mat-in, mat-gap, mat-self, mat-ext, mat-none}
 use Rattle.gram_panels.proofs.Mats.{mat-mat, mat-append, mat-wide, striped-none}
 use Rattle.lazy_gram.specs.declared.GramPlaces.{GramPlaces}
@@ -18,10 +18,6 @@ use Rattle.lazy_gram.specs.Nest.{Like, tri, entry}
 use Rattle.lazy_gram.specs.Nest.{next, advanced, whole, advancedLow, Lie, Pairs, Rows, Clear}
 use Rattle.lazy_gram.proofs.Likes.{like-refl, like-trans, like-mat, like-panel, like-wide}
 use Rattle.lazy_gram.proofs.Carried.{cell-like, carry-adv, adv-like, adv-entry}
-
--- j rows of the p, and n more, lie within p rows of p
-pub rows-room : (j n p : ℕ) → j + n ≤ p → j * p + n * p ≤ p * p
-rows-room j n p h = rw (add-mul j n p) at (mul-le-mul-right p h)
 
 -- ---- the columns before a block's own
 
@@ -38,7 +34,7 @@ module _ {m : List Float} {p row nr : ℕ} {s₀ : List Float} {pl : GramPlaces}
       → Block s₁ ((pl .ga) + jb * (pl .cc) * p + kb * (pl .cc)) p nj (pl .cc) (jb * (pl .cc) - kb * (pl .cc)) (pl .le) (pl .ri) (pl .cc) nr
   pairs-block kb s s₁ h len e =
       let hk = row-room kb jb (pl .cc) h in
-      let hr = rows-room (jb * (pl .cc)) nj p (pre .cols) in
+      let hr = rows-room (jb * (pl .cc)) nj p p (pre .cols) in
       let n : length s₁ ≡ length s₀ = ap length e ∙ length-mat s (pl .ri) (pl .cc) (same (pl .cc)) (panelAt m p s (pl .ce) (pl .sc) row (kb * (pl .cc))) nr ∙ len in
       record {
         room = omega arith;
@@ -69,7 +65,7 @@ module _ {m : List Float} {p row nr : ℕ} {s₀ : List Float} {pl : GramPlaces}
       let M = mat s₀ g p (same k) E nj in
       let P = panelAt m p s (pl .ce) (pl .sc) row k in
       let hk : k + (pl .cc) ≤ j = row-room kb jb (pl .cc) h in
-      let room : j * p + nj * p ≤ p * p = rows-room j nj p (pre .cols) in
+      let room : j * p + nj * p ≤ p * p = rows-room j nj p p (pre .cols) in
       let len : length s ≡ length s₀ = L .len ∙ length-mat s₀ g p (same k) E nj in
       let low₀ : (q : ℕ) → q < (pl .ri) → s ! q ≡ s₀ ! q = λ q l. L .low q l ∙ mat-below s₀ g p (same k) E nj q (omega arith) in
       let L₁ : Like (pl .ri) en s₁ s =
@@ -150,7 +146,7 @@ module _ {m : List Float} {p row nr : ℕ} {s₀ : List Float} {pl : GramPlaces}
       → Like (pl .ri) ((pl .ri) + nr * (pl .cc)) s₂ (advanced m p row nr s₁ pl (jb * (pl .cc)) (same (jb * (pl .cc))) nj)
       → Block s₂ ((pl .ga) + jb * (pl .cc) * p + jb * (pl .cc)) p nj nj 0 (pl .le) (pl .le) (pl .cc) nr
   column-block s₂ L =
-      let hr = rows-room (jb * (pl .cc)) nj p (omega arith) in
+      let hr = rows-room (jb * (pl .cc)) nj p p (omega arith) in
       let n : length s₂ ≡ length s₀ = L .len ∙ length-mat s₁ ((pl .ga) + jb * (pl .cc) * p) p (same (jb * (pl .cc))) _ nj ∙ column-panel .len in
       record {
         room = omega (arith, lie);
@@ -175,7 +171,7 @@ module _ {m : List Float} {p row nr : ℕ} {s₀ : List Float} {pl : GramPlaces}
       let Ej : ℕ → ℕ → Float = λ a b. E a (j + b) in
       let E₁ = next (cell m p s₁ (pl .ce) (pl .sc)) s₁ g p row nr j in
       let W : ℕ → ℕ = λ a. a + 1 in
-      let room : j * p + nj * p ≤ p * p = rows-room j nj p (omega arith) in
+      let room : j * p + nj * p ≤ p * p = rows-room j nj p p (omega arith) in
       let L₁ = column-panel in
       let M₁ = mat s₁ g p (same j) E₁ nj in
       let M = mat s₀ g p (same j) E nj in
@@ -234,7 +230,7 @@ module _ {m : List Float} {p row nr : ℕ} {s₀ : List Float} {pl : GramPlaces}
       let L : Like (pl .le) en s M = subst (λ (k : ℕ). Like (pl .le) en s (mat s₀ (pl .ga) p low W k)) ml L₀ in
       let L₂ : Like (pl .le) en s′ (mat s g p (tri j) E nj) =
       subst (λ (k : ℕ). Like (pl .le) en s′ (advanced m p row nr s pl k (tri k) (least (p - k) (pl .cc)))) (sym ej) L₁ in
-      let room : j * p + nj * p ≤ p * p = rows-room j nj p (omega arith) in
+      let room : j * p + nj * p ≤ p * p = rows-room j nj p p (omega arith) in
       let len : length s ≡ length s₀ = L .len ∙ length-mat s₀ (pl .ga) p low W j in
       let lows : (q : ℕ) → q < (pl .le) → s ! q ≡ s₀ ! q = λ q l. L .low q l ∙ mat-below s₀ (pl .ga) p low W j q (omega (arith, lie)) in
       let cells : (i b : ℕ) → b < p → c₁ i b ≡ c i b =

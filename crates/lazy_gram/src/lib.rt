@@ -10,7 +10,7 @@ use layout::Places;
 use layout::Sizes;
 use settings::Terms;
 ghost use mathlib.Core.Path.{_≡_};
-ghost use Prim.Native.Nat.{_+_, _-_, _*_, _≤_, _<_};
+ghost use Prim.Native.Nat.{_+_, _-_, _*_, _≤_};
 ghost use lib.ListN.{length};
 ghost use Rattle.arrays.specs.Part.{put, tab};
 ghost use Rattle.layout.specs.Slots.{Makes};

@@ -40,10 +40,10 @@ multiplied raw centre scale by e = rw e
 
 -- ---- the reciprocal where scale and reciprocal are normal, and otherwise +0
 
-pub reciprocal-or-division : (scale : Float) → T (isNormal scale) → T (isNormal (one ⊘ scale)) → reciprocalOf scale ≡ one ⊘ scale
+reciprocal-or-division : (scale : Float) → T (isNormal scale) → T (isNormal (one ⊘ scale)) → reciprocalOf scale ≡ one ⊘ scale
 reciprocal-or-division scale p q = sym (reciprocal-is scale true true (sym (is-true _ p)) (sym (is-true _ q)))
 
-pub no-reciprocal : (scale : Float) → (T (isNormal scale) → T (isNormal (one ⊘ scale)) → ⊥) → reciprocalOf scale ≡ plus0
+no-reciprocal : (scale : Float) → (T (isNormal scale) → T (isNormal (one ⊘ scale)) → ⊥) → reciprocalOf scale ≡ plus0
 no-reciprocal scale h = go (isNormal scale) (isNormal (one ⊘ scale)) refl refl h where
   go : (a b : Bool) → a ≡ isNormal scale → b ≡ isNormal (one ⊘ scale) → (T a → T b → ⊥) → reciprocalOf scale ≡ plus0
   go true true p q h = absurd (h tt tt)
@@ -60,7 +60,7 @@ above-zero (fin s m e) h =
     let some : 0 < m * up e = mul-pos (ltb→lt 0 m h) (up-pos e) in
     rw (ne-eqb (m * up e * 1) (0 * down e) (λ z. omega (arith, zero-mul (down e))))
 
-pub normal-not-zero : (x : Float) → T (isNormal x) → eq x plus0 ≡ false
+normal-not-zero : (x : Float) → T (isNormal x) → eq x plus0 ≡ false
 unfolding isNormal ofBits
 normal-not-zero x n =
     let least = f64 0x0010_0000_0000_0000 in

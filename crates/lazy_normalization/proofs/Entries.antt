@@ -1,4 +1,4 @@
--- What the products read is the design's entries, in a slice whose columns' numbers and vector no write touches. Assumes nothing.
+-- An entry of the design with the columns' numbers that lie in a slice; and slices in which no write touches what the products read. Assumes nothing.
 use mathlib.Core.Path.{_≡_}
 use mathlib.Core.List.{List}
 use Prim.Native.Nat.{ℕ, _+_, _≤_, _<_}

@@ -1,4 +1,4 @@
--- The sums of one row, of eight and of eighths of all rows. Inner definitions: no promise names them.
+-- The row sums without the padding, and what the functions that make one, or eight, ask. Inner definitions: no promise names them.
 use mathlib.Core.Path.{_≡_}
 use mathlib.Core.List.{List}
 use Prim.Native.Nat.{ℕ, _+_, _*_, _≤_}

@@ -13,7 +13,7 @@ use Rattle.arrays.specs.Sums.{_!_, plus0}
 use Rattle.arrays.proofs.Folds.{fold-ext}
 use Rattle.arrays.proofs.Commute.{times-comm}
 use Rattle.arrays.specs.Vectors.{Clear, fillOf}
-use Rattle.several.specs.Several.{addedOf}
+use Rattle.several.specs.Several.{gathered, addedOf}
 use Rattle.arrays.proofs.Turns.{Made, made-of, made-again, part-kept}
 use Rattle.several.proofs.Added.{added-on}
 use Rattle.matrices.specs.Products.{columnProduct, columnsOf, Together}
@@ -101,7 +101,7 @@ module _ {s₀ s₁ : List Float} {mat rows cols v : ℕ} (a : Alike s₀ s₁ m
     (room : out + cols ≤ length t₀) where
   -- over sums of +0 what is summed is the product
   from-none : (j : ℕ) → j < cols → summed t₁ out s₁ mat cols v rows j ≡ columnProduct (part s₀ mat (rows * cols)) rows cols (part s₀ v rows) j
-  unfolding addedOf
+  unfolding addedOf gathered
   from-none j l =
       let none : t₁ ! (out + j) ≡ plus0 = rw (d .is) (getD-put-tab t₀ out (λ k. plus0) cols j nan room l) in
       rw none

@@ -5,19 +5,21 @@ use mathlib.Core.Path.{_≡_, refl}
 use native.Mathlib.Omega.{arith}
 use lib.ListN.{length-set}
 use Rattle.matrices.proofs.Lengths.{row-room}
-use Rattle.column_moments.specs.Added.{gathered, itself, square, rowsAdded}
-use Rattle.column_moments.proofs.Pairs.{Pair, pair-none, gathered-none, gathered-more, column-added}
+use Rattle.several.specs.Several.{gathered}
+use Rattle.several.proofs.Added.{gathered-none, gathered-more}
+use Rattle.column_moments.specs.Added.{itself, squared, rowsAdded}
+use Rattle.column_moments.proofs.Pairs.{Pair, pair-none, column-added}
 use Rattle.column_moments.proofs.add_four.Statement.{statement}
 use Rattle.column_moments.proofs.add_four.Tie as tie
 
 abbrev Inv-loop2 : tie.InvT-loop2
-Inv-loop2 m at s sums squares cols j t₀ u₀ k₀ t u k = (k ≤ 4) × (t ≡ gathered itself s sums m at cols k j) × (u ≡ gathered square s squares m at cols k j)
+Inv-loop2 m at s sums squares cols j t₀ u₀ k₀ t u k = (k ≤ 4) × (t ≡ gathered itself s sums m at cols k j) × (u ≡ gathered squared s squares m at cols k j)
 
 abbrev μ-loop2 : tie.MeasureT-loop2
 μ-loop2 m at s sums squares cols j t₀ u₀ k₀ t u k = 4 - k
 
 abbrev Inv-loop : tie.InvT-loop
-Inv-loop m at s₀ sums squares cols j₀ s j = (j ≤ cols) × Pair s₀ sums squares j (gathered itself s₀ sums m at cols 4) (gathered square s₀ squares m at cols 4) s
+Inv-loop m at s₀ sums squares cols j₀ s j = (j ≤ cols) × Pair s₀ sums squares j (gathered itself s₀ sums m at cols 4) (gathered squared s₀ squares m at cols 4) s
 
 abbrev μ-loop : tie.MeasureT-loop
 μ-loop m at s₀ sums squares cols j₀ s j = cols - j
@@ -70,7 +72,7 @@ loop2-less c = omega arith
 loop2-again : tie.Need-loop2-again Inv-loop2 μ-loop2 Inv-loop μ-loop
 loop2-again c =
     let at = c .before .before in
-    (omega arith, gathered-more itself _ _ _ _ _ _ _ _ _ (at .loop2 .inv .1) refl, gathered-more square _ _ _ _ _ _ _ _ _ (at .loop2 .inv .2) refl)
+    (omega arith, gathered-more itself _ _ _ _ _ _ _ _ _ (at .loop2 .inv .1) refl, gathered-more squared _ _ _ _ _ _ _ _ _ (at .loop2 .inv .2) refl)
 
 add-s : tie.Need-add-s Inv-loop2 μ-loop2 Inv-loop μ-loop
 add-s c = omega arith

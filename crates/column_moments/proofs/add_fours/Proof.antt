@@ -1,22 +1,21 @@
 -- `column_moments::add_fours` meets its contract. The invariant: the first 4 * i rows are added. The measure: q - i. Assumes nothing.
 use Prim.Native.Nat.{_+_, _-_, _*_, _≤_}
-use mathlib.Core.Path.{_≡_, refl}
+use mathlib.Core.Path.{_≡_}
 use native.Mathlib.Omega.{arith}
 use Rattle.matrices.proofs.Lengths.{rows-room}
 use Rattle.column_moments.specs.Added.{rowsAdded}
-use Rattle.column_moments.proofs.Pairs.{Sums, sums-none, sums-on}
+use Rattle.column_moments.proofs.Pairs.{WithRows, rows-none, rows-on}
 use Rattle.column_moments.proofs.add_fours.Statement.{statement}
 use Rattle.column_moments.proofs.add_fours.Tie as tie
-use Rattle.column_moments.proofs.add_four.Reads as add-four-reads
 
 abbrev Inv-loop : tie.InvT-loop
-Inv-loop m q s₀ sums squares cols i₀ s i = (i ≤ q) × Sums s₀ sums squares m 0 cols (4 * i) s
+Inv-loop m q s₀ sums squares cols i₀ s i = (i ≤ q) × WithRows s₀ sums squares m 0 cols (4 * i) s
 
 abbrev μ-loop : tie.MeasureT-loop
 μ-loop m q s₀ sums squares cols i₀ s i = q - i
 
 loop-holds : tie.Need-loop-holds Inv-loop μ-loop
-loop-holds c = (omega arith, sums-none _ _ _ _ _ _ (omega arith) (omega arith))
+loop-holds c = (omega arith, rows-none _ _ _ _ _ _ (omega arith) (omega arith))
 
 mul-add-four : tie.Need-mul-add-four Inv-loop μ-loop
 mul-add-four c = omega arith
@@ -46,7 +45,7 @@ loop-again c =
     let g = at .before .before .before .args in
     let i = at .loop .i in
     let e : 4 * (i + 1) ≡ 4 * i + 4 = omega arith in
-    (omega arith, rw e (sums-on (g .m .now) 0 (g .cols) (4 * i) 4 (at .loop .inv .1) _ _ (omega arith) (c .before .before .add-four .ensures)))
+    (omega arith, rw e (rows-on (g .m .now) 0 (g .cols) (4 * i) 4 (at .loop .inv .1) _ _ (omega arith) (c .before .before .add-four .ensures)))
 
 same-length : tie.Need-same-length Inv-loop μ-loop
 same-length c = omega arith

@@ -4,13 +4,15 @@ use Prim.Native.Nat.{_-_, _≤_}
 use mathlib.Core.Path.{_≡_}
 use native.Mathlib.Omega.{arith}
 use lib.ListN.{length-set}
-use Rattle.column_moments.specs.Added.{gathered, itself, square, rowsAdded}
-use Rattle.column_moments.proofs.Pairs.{Pair, pair-none, gathered-one, column-added}
+use Rattle.several.specs.Several.{gathered}
+use Rattle.several.proofs.Added.{gathered-one}
+use Rattle.column_moments.specs.Added.{itself, squared, rowsAdded}
+use Rattle.column_moments.proofs.Pairs.{Pair, pair-none, column-added}
 use Rattle.column_moments.proofs.add_row.Statement.{statement}
 use Rattle.column_moments.proofs.add_row.Tie as tie
 
 abbrev Inv-loop : tie.InvT-loop
-Inv-loop m at s₀ sums squares cols j₀ s j = (j ≤ cols) × Pair s₀ sums squares j (gathered itself s₀ sums m at cols 1) (gathered square s₀ squares m at cols 1) s
+Inv-loop m at s₀ sums squares cols j₀ s j = (j ≤ cols) × Pair s₀ sums squares j (gathered itself s₀ sums m at cols 1) (gathered squared s₀ squares m at cols 1) s
 
 abbrev μ-loop : tie.MeasureT-loop
 μ-loop m at s₀ sums squares cols j₀ s j = cols - j
@@ -74,7 +76,7 @@ loop-again c =
     let at = c .before .before .before .before in
     let g = at .before .args in (
       omega arith,
-      column-added (g .m .now) (g .at) (g .cols) 1 (at .loop .inv .1) (omega arith) (omega arith) (gathered-one itself _ _ _ _ _ _) (gathered-one square _ _ _ _ _ _),
+      column-added (g .m .now) (g .at) (g .cols) 1 (at .loop .inv .1) (omega arith) (omega arith) (gathered-one itself _ _ _ _ _ _) (gathered-one squared _ _ _ _ _ _),
     )
 
 same-length : tie.Need-same-length Inv-loop μ-loop

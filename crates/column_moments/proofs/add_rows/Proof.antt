@@ -1,22 +1,21 @@
 -- `column_moments::add_rows` meets its contract. The invariant: the first i rows from `at` on are added. The measure: left - i. Assumes nothing.
-use Prim.Native.Nat.{_+_, _-_, _*_, _≤_}
+use Prim.Native.Nat.{_-_, _≤_}
 use mathlib.Core.Path.{_≡_, refl}
 use native.Mathlib.Omega.{arith}
 use Rattle.matrices.proofs.Lengths.{row-room}
 use Rattle.column_moments.specs.Added.{rowsAdded}
-use Rattle.column_moments.proofs.Pairs.{Sums, sums-none, sums-on}
+use Rattle.column_moments.proofs.Pairs.{WithRows, rows-none, rows-on}
 use Rattle.column_moments.proofs.add_rows.Statement.{statement}
 use Rattle.column_moments.proofs.add_rows.Tie as tie
-use Rattle.column_moments.proofs.add_row.Reads as add-row-reads
 
 abbrev Inv-loop : tie.InvT-loop
-Inv-loop m at left s₀ sums squares cols i₀ s i = (i ≤ left) × Sums s₀ sums squares m at cols i s
+Inv-loop m at left s₀ sums squares cols i₀ s i = (i ≤ left) × WithRows s₀ sums squares m at cols i s
 
 abbrev μ-loop : tie.MeasureT-loop
 μ-loop m at left s₀ sums squares cols i₀ s i = left - i
 
 loop-holds : tie.Need-loop-holds Inv-loop μ-loop
-loop-holds c = (omega arith, sums-none _ _ _ _ _ _ (omega arith) (omega arith))
+loop-holds c = (omega arith, rows-none _ _ _ _ _ _ (omega arith) (omega arith))
 
 mul-add-row : tie.Need-mul-add-row Inv-loop μ-loop
 mul-add-row c =
@@ -47,7 +46,7 @@ loop-again : tie.Need-loop-again Inv-loop μ-loop
 loop-again c =
     let at = c .before .before .before .before .before in
     let g = at .before .before .before .args in
-    (omega arith, sums-on (g .m .now) (g .at) (g .cols) (at .loop .i) 1 (at .loop .inv .1) _ _ refl (c .before .before .add-row .ensures))
+    (omega arith, rows-on (g .m .now) (g .at) (g .cols) (at .loop .i) 1 (at .loop .inv .1) _ _ refl (c .before .before .add-row .ensures))
 
 same-length : tie.Need-same-length Inv-loop μ-loop
 same-length c = omega arith

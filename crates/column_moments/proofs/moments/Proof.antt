@@ -3,7 +3,7 @@ use Prim.Native.Nat.{_-_, _*_, _/_}
 use mathlib.Core.Path.{refl}
 use native.Mathlib.Omega.{arith}
 use Rattle.matrices.proofs.Lengths.{rows-room}
-use Rattle.column_moments.proofs.Pairs.{summed, moments-made}
+use Rattle.column_moments.proofs.Pairs.{all-rows, moments-made}
 use Rattle.column_moments.proofs.moments.Statement.{statement}
 use Rattle.column_moments.proofs.moments.Tie as tie
 
@@ -61,7 +61,7 @@ returns c =
     let first = second .before .before .before .before in
     let start = first .before .before .before .before in
     let g = start .args in
-    let all = summed (g .m .now) (g .rows) (4 * (g .rows / 4)) (omega arith) (start .pre .apart) (start .pre .room) _ _ _ _ (first .fill .ensures)
+    let all = all-rows (g .m .now) (g .rows) (4 * (g .rows / 4)) (omega arith) (start .pre .apart) (start .pre .room) _ _ _ _ (first .fill .ensures)
     (second .fill2 .ensures) (fours .add-fours .ensures) (rows .add-rows .ensures) in
     moments-made (g .m .now) (g .rows) (g .cols) _ (d .float-of .ensures) all _ _ (means .finish-means .ensures) (deviations .finish-deviations .ensures) .is
 

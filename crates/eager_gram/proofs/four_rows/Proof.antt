@@ -1,12 +1,11 @@
 -- `eager_gram::four_rows` meets its contract. The invariant: the first r rows of the lower triangle have four products more, and all else is as it was.
 -- The measure: p - r. Assumes nothing.
 use Prim.Native.Nat.{_-_}
-use mathlib.Core.Path.{refl}
 use native.Mathlib.Omega.{arith}
 use Rattle.matrices.proofs.Lengths.{row-room}
 use Rattle.gram_panels.specs.Panels.{low, carry}
 use Rattle.gram_panels.proofs.Mats.{Striped, striped-none, striped-all}
-use Rattle.eager_gram.proofs.Added.{row-more}
+use Rattle.eager_gram.proofs.Added.{entry-row-more}
 use Rattle.eager_gram.proofs.four_rows.Statement.{statement}
 use Rattle.eager_gram.proofs.four_rows.Tie as tie
 
@@ -46,7 +45,7 @@ loop-again : tie.Need-loop-again Inv-loop μ-loop
 loop-again c =
     let in-loop = c .before .before .before .before in
     let at = in-loop .before in
-    row-more (at .before .before .pre) (in-loop .loop-test .taken) (at .loop .inv) _ (λ k m. refl) _ (c .before .before .add-four .ensures)
+    entry-row-more (at .before .before .pre) (in-loop .loop-test .taken) (at .loop .inv) _ (c .before .before .add-four .ensures)
 
 same-length : tie.Need-same-length Inv-loop μ-loop
 same-length c = omega arith

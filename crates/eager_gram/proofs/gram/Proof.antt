@@ -18,7 +18,7 @@ use Rattle.layout.specs.declared.Sizes.{Sizes}
 use Rattle.layout.specs.declared.Places.{Places}
 use Rattle.layout.specs.Slots.{Slot.GRAM, Slot.DESIGN, Has, Room, vars, rest, words}
 use Rattle.layout.proofs.Slots.{start, then}
-use Rattle.several.specs.Several.{addedOf}
+use Rattle.several.specs.Several.{gathered, addedOf}
 use Rattle.gram_panels.specs.Panels.{mat, low, carry, right-of, fromBelow}
 use Rattle.gram_panels.proofs.Mats.{mat-ext}
 use Rattle.gram_panels.proofs.Square.{mirrored}
@@ -50,7 +50,7 @@ module _ (s : List Float) (g p at k : ℕ) (above : g + p * p ≤ at) (room : at
       (getD-put-below s g (fillOf plus0 (p * p)) (at + (i * p + c)) nan (omega (arith, length-fill plus0 (p * p))))
 
   lower : (r c : ℕ) → r < p → c < low r → carry t g p at at p k r c ≡ sum (part s at (k * p)) r c
-  unfolding addedOf carry
+  unfolding addedOf gathered carry
   lower r c h l =
       rw (none r c h (omega arith)) (fold-ext _ _ _ _ k (λ i m.
       let place : at + r + i * p ≡ at + i * p + r = omega arith in

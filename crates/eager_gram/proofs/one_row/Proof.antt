@@ -1,16 +1,15 @@
 -- `eager_gram::one_row` meets its contract. The invariant: the first r rows of the lower triangle have one product more, and all else is as it was.
 -- The measure: p - r. Assumes nothing.
 use Prim.Native.Nat.{ℕ, _-_}
-use mathlib.Core.Path.{refl, ap, _∙_}
+use mathlib.Core.Path.{ap, _∙_}
 use native.Mathlib.Omega.{arith}
 use Rattle.arrays.specs.Part.{put}
 use Rattle.arrays.specs.Sums.{_!_}
-use Rattle.several.proofs.Several.{few}
 use Rattle.several.proofs.Added.{added-one}
 use Rattle.matrices.proofs.Lengths.{row-room}
 use Rattle.gram_panels.specs.Panels.{low, carry}
 use Rattle.gram_panels.proofs.Mats.{Striped, striped-none, striped-all}
-use Rattle.eager_gram.proofs.Added.{row-more}
+use Rattle.eager_gram.proofs.Added.{entry-row-more}
 use Rattle.eager_gram.proofs.one_row.Statement.{statement}
 use Rattle.eager_gram.proofs.one_row.Tie as tie
 
@@ -56,9 +55,8 @@ loop-again : tie.Need-loop-again Inv-loop μ-loop
 loop-again c =
     let in-loop = c .before .before .before .before .before in
     let at = in-loop .before in
-    let start = at .before .before in
-    row-more (start .pre) (in-loop .loop-test .taken) (at .loop .inv) _ (λ k m. ap (λ (a : ℕ). at .loop .s ! a) (omega (arith, few k 0 (start .args .p) m))) _
-    (c .before .before .add-scaled .ensures ∙ ap (put _ _) (added-one _ _ _ _ _ _ _))
+    entry-row-more (at .before .before .pre) (in-loop .loop-test .taken) (at .loop .inv) _
+    (c .before .before .add-scaled .ensures ∙ ap (put _ _) (added-one _ _ _ _ _ _ _ _ (ap (λ (a : ℕ). at .loop .s ! a) (omega arith))))
 
 same-length : tie.Need-same-length Inv-loop μ-loop
 same-length c = omega arith

@@ -7,9 +7,9 @@ use Rattle.arrays.specs.Part.{part}
 use Rattle.arrays.proofs.Part.{getD-part}
 use Rattle.arrays.specs.Sums.{_!_}
 use Rattle.arrays.specs.Vectors.{zipOf}
-use Rattle.arrays.proofs.Turns.{Made, made-none}
+use Rattle.arrays.proofs.Turns.{Made, made-none, array-more, array-all}
 use Rattle.ending.specs.End.{rescaledOf}
-use Rattle.ending.proofs.Whole.{unwritten, written-more, written-all}
+use Rattle.ending.proofs.Whole.{unwritten}
 use Rattle.ending.proofs.rescale.Statement.{statement}
 use Rattle.ending.proofs.rescale.Tie as tie
 
@@ -56,14 +56,14 @@ loop-again c =
     let h : at .loop .i < g .p = omega arith in
     let e = unwritten (at .loop .inv) h in
     let d = getD-part (g .s .now) (g .sc) (g .p) (at .loop .i) nan h in
-    written-more (at .loop .inv) _ h (rw (e, d))
+    array-more (at .loop .inv) _ h (rw (e, d))
 
 same-length : tie.Need-same-length Inv-loop μ-loop
 same-length c = omega arith
 
 returns : tie.Need-returns Inv-loop μ-loop
 unfolding rescaledOf zipOf
-returns c = written-all (c .before .loop .inv) (omega arith) (c .before .before .pre .0)
+returns c = array-all (c .before .loop .inv) (omega arith) (c .before .before .pre .0)
 
 pub rescale-spec : {M : Type 1} → statement M
 rescale-spec =

@@ -4,9 +4,9 @@ use native.Mathlib.Omega.{arith}
 use Rattle.numbers.specs.Ops.{_⊗_}
 use Rattle.arrays.specs.Sums.{_!_}
 use Rattle.arrays.specs.Vectors.{mapOf}
-use Rattle.arrays.proofs.Turns.{Made, made-none}
+use Rattle.arrays.proofs.Turns.{Made, made-none, array-more, array-all}
 use Rattle.ending.specs.End.{rescaledOf}
-use Rattle.ending.proofs.Whole.{unwritten, written-more, written-all}
+use Rattle.ending.proofs.Whole.{unwritten}
 use Rattle.ending.proofs.scale.Statement.{statement}
 use Rattle.ending.proofs.scale.Tie as tie
 
@@ -43,14 +43,14 @@ loop-again c =
     let g = at .before .args in
     let h : at .loop .i < g .p = omega arith in
     let e = unwritten (at .loop .inv) h in
-    written-more (at .loop .inv) _ h (rw e)
+    array-more (at .loop .inv) _ h (rw e)
 
 same-length : tie.Need-same-length Inv-loop μ-loop
 same-length c = omega arith
 
 returns : tie.Need-returns Inv-loop μ-loop
 unfolding rescaledOf mapOf
-returns c = written-all (c .before .loop .inv) (omega arith) (c .before .before .pre)
+returns c = array-all (c .before .loop .inv) (omega arith) (c .before .before .pre)
 
 pub scale-spec : {M : Type 1} → statement M
 scale-spec =

@@ -1,10 +1,9 @@
 -- `gram_panels::entry_row` meets its contract. The invariant: the w sums are those after i rows of the panels, and all else is as it was.
 -- The measure: nr - i, which falls by four. Assumes nothing.
-use mathlib.Core.Path.{_≡_, refl}
-use Prim.Native.Nat.{ℕ, _+_, _-_, _*_, _≤_}
+use mathlib.Core.Path.{_≡_}
+use Prim.Native.Nat.{_+_, _-_, _≤_}
 use native.Mathlib.Nat.{one-mul}
 use native.Mathlib.Omega.{arith}
-use Rattle.arrays.specs.Sums.{_!_}
 use Rattle.arrays.proofs.Turns.{Made}
 use Rattle.several.proofs.Added.{added-none}
 use Rattle.matrices.proofs.Lengths.{rows-room}
@@ -64,7 +63,7 @@ loop-less c = omega arith
 loop-again : tie.Need-loop-again Inv-loop μ-loop
 loop-again c =
     let at = c .before .before .before .before .before in
-    (omega arith, sums-more (at .before .before .pre) (at .loop .i) 4 (omega arith) (at .loop .inv .1) _ (λ k m. refl) _ (c .before .before .add-four .ensures))
+    (omega arith, sums-more (at .before .before .pre) (at .loop .i) 4 (omega arith) (at .loop .inv .1) _ (c .before .before .add-four .ensures))
 
 mul-q-2 : tie.Need-mul-q-2 Inv-loop μ-loop
 mul-q-2 c =
@@ -106,7 +105,7 @@ returns c =
     let i = at .loop .i in
     let nr = at .before .before .args .nr in
     let e : i + (nr - i) ≡ nr = omega arith in
-    rw e at (sums-more (at .before .before .pre) i (nr - i) (omega arith) (at .loop .inv .1) _ (λ k m. refl) _ (c .before .before .few-rows .ensures) .is)
+    rw e at (sums-more (at .before .before .pre) i (nr - i) (omega arith) (at .loop .inv .1) _ (c .before .before .few-rows .ensures) .is)
 
 pub entry-row-spec : {M : Type 1} → statement M
 entry-row-spec =

@@ -6,7 +6,6 @@ use native.Mathlib.Omega.{arith}
 use Rattle.arrays.specs.Part.{put}
 use Rattle.arrays.specs.Sums.{_!_}
 use Rattle.arrays.proofs.Turns.{Made}
-use Rattle.several.proofs.Several.{few}
 use Rattle.several.proofs.Added.{added-none, added-one}
 use Rattle.gram_panels.specs.Panels.{sumAt}
 use Rattle.matrices.proofs.Lengths.{row-room}
@@ -74,12 +73,8 @@ loop-less c = omega arith
 loop-again : tie.Need-loop-again Inv-loop μ-loop
 loop-again c =
     let at = c .before .before .before .before .before .before in
-    let start = at .before .before in
-    let made = c .before .before .add-scaled .ensures in (
-      omega arith,
-      sums-more (start .pre) (at .loop .i) 1 (omega arith) (at .loop .inv .1) _ (λ k m. ap (λ (a : ℕ). at .loop .s ! a) (omega (arith, few k 0 (start .args .cc) m))) _
-          (made ∙ ap (put _ _) (added-one _ _ _ _ _ _ _)),
-    )
+    let made = c .before .before .add-scaled .ensures in
+    (omega arith, sums-more (at .before .before .pre) (at .loop .i) 1 (omega arith) (at .loop .inv .1) _ (made ∙ ap (put _ _) (added-one _ _ _ _ _ _ _ _ (ap (λ (a : ℕ). at .loop .s ! a) (omega arith)))))
 
 same-length : tie.Need-same-length Inv-loop μ-loop
 same-length c = omega arith

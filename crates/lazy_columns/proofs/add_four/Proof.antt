@@ -62,23 +62,23 @@ loop2-holds : tie.Need-loop2-holds Inv-loop2 μ-loop2 Inv-loop μ-loop
 loop2-holds c = (omega arith, sym (fold-none _ _ _))
 
 -- row k of the four lies no further than the last
-last : (c : tie.In-loop2 Inv-loop2 μ-loop2 Inv-loop μ-loop) → let p = c .before .before .before .before .before .before .before .args .p in c .before .loop2 .k * p ≤ 3 * p
-last c = few _ 3 _ (c .loop2-test .taken)
+last-row : (c : tie.In-loop2 Inv-loop2 μ-loop2 Inv-loop μ-loop) → let p = c .before .before .before .before .before .before .before .args .p in c .before .loop2 .k * p ≤ 3 * p
+last-row c = few _ 3 _ (c .loop2-test .taken)
 
 mul-t-2 : tie.Need-mul-t-2 Inv-loop2 μ-loop2 Inv-loop μ-loop
-mul-t-2 c = omega (arith, last c)
+mul-t-2 c = omega (arith, last-row c)
 
 add-t-2 : tie.Need-add-t-2 Inv-loop2 μ-loop2 Inv-loop μ-loop
-add-t-2 c = omega (arith, last c)
+add-t-2 c = omega (arith, last-row c)
 
 add-t-3 : tie.Need-add-t-3 Inv-loop2 μ-loop2 Inv-loop μ-loop
-add-t-3 c = omega (arith, last c)
+add-t-3 c = omega (arith, last-row c)
 
 mul-t-3 : tie.Need-mul-t-3 Inv-loop2 μ-loop2 Inv-loop μ-loop
-mul-t-3 c = omega (arith, last c)
+mul-t-3 c = omega (arith, last-row c)
 
 shared-slice-read-t : tie.Need-shared-slice-read-t Inv-loop2 μ-loop2 Inv-loop μ-loop
-shared-slice-read-t c = omega (arith, last (c .before))
+shared-slice-read-t c = omega (arith, last-row (c .before))
 
 mul-t-4 : tie.Need-mul-t-4 Inv-loop2 μ-loop2 Inv-loop μ-loop
 mul-t-4 c = omega arith

@@ -1,7 +1,8 @@
 -- `lazy_gram::column` meets its contract: the pairs with earlier columns, then the left panel with itself. Assumes nothing.
 use Prim.Native.Nat.{_*_}
 use native.Mathlib.Omega.{arith}
-use Rattle.lazy_gram.proofs.Nest.{rows-room, column-pairs, column-block, column-turn}
+use Rattle.matrices.proofs.Lengths.{rows-room}
+use Rattle.lazy_gram.proofs.Nest.{column-pairs, column-block, column-turn}
 use Rattle.lazy_gram.proofs.column.Statement.{statement}
 use Rattle.lazy_gram.proofs.column.Tie as tie
 
@@ -39,7 +40,7 @@ mul-block c =
     let st = c .before .before .before .before .before .before .before .before .before .before .before .before .before in
     let g = st .args in
     let lo = c .before .before .before .before .before .before .before .before .before .least-of in
-    let h = rows-room (g .jb * g .pl .cc) (lo .result) (g .p) (omega (arith, lo .ensures, st .pre)) in
+    let h = rows-room (g .jb * g .pl .cc) (lo .result) (g .p) (g .p) (omega (arith, lo .ensures, st .pre)) in
     omega (arith, st .pre)
 
 add-block : tie.Need-add-block
@@ -47,7 +48,7 @@ add-block c =
     let st = c .before .before .before .before .before .before .before .before .before .before .before .before .before .before in
     let g = st .args in
     let lo = c .before .before .before .before .before .before .before .before .before .before .least-of in
-    let h = rows-room (g .jb * g .pl .cc) (lo .result) (g .p) (omega (arith, lo .ensures, st .pre)) in
+    let h = rows-room (g .jb * g .pl .cc) (lo .result) (g .p) (g .p) (omega (arith, lo .ensures, st .pre)) in
     omega (arith, st .pre)
 
 add-block-2 : tie.Need-add-block-2
@@ -55,7 +56,7 @@ add-block-2 c =
     let st = c .before .before .before .before .before .before .before .before .before .before .before .before .before .before in
     let g = st .args in
     let lo = c .before .before .before .before .before .before .before .before .before .before .least-of in
-    let h = rows-room (g .jb * g .pl .cc) (lo .result) (g .p) (omega (arith, lo .ensures, st .pre)) in
+    let h = rows-room (g .jb * g .pl .cc) (lo .result) (g .p) (g .p) (omega (arith, lo .ensures, st .pre)) in
     omega (arith, st .pre)
 
 block-requires : tie.Need-block-requires

@@ -5,10 +5,10 @@ use Prim.Native.Nat.{_+_, _-_, _*_, _≤_}
 use native.Mathlib.Omega.{arith}
 use lib.ListN.{length}
 use Rattle.gram_panels.specs.Panels.{same}
-use Rattle.matrices.proofs.Lengths.{row-room}
+use Rattle.matrices.proofs.Lengths.{row-room, rows-room}
 use Rattle.gram_panels.proofs.Mats.{length-mat}
 use Rattle.lazy_gram.specs.Nest.{Like, advanced}
-use Rattle.lazy_gram.proofs.Nest.{rows-room, pairs-start, pairs-block, pairs-turn}
+use Rattle.lazy_gram.proofs.Nest.{pairs-start, pairs-block, pairs-turn}
 use Rattle.lazy_gram.proofs.pairs.Statement.{statement}
 use Rattle.lazy_gram.proofs.pairs.Tie as tie
 
@@ -27,13 +27,13 @@ mul-j c = omega arith
 mul-g : tie.Need-mul-g Inv-loop μ-loop
 mul-g c =
     let st = c .before .before .before in
-    let h = rows-room (st .args .jb * st .args .pl .cc) (st .args .nj) (st .args .p) (st .pre .cols) in
+    let h = rows-room (st .args .jb * st .args .pl .cc) (st .args .nj) (st .args .p) (st .args .p) (st .pre .cols) in
     omega (arith, st .pre)
 
 add-g : tie.Need-add-g Inv-loop μ-loop
 add-g c =
     let st = c .before .before .before .before in
-    let h = rows-room (st .args .jb * st .args .pl .cc) (st .args .nj) (st .args .p) (st .pre .cols) in
+    let h = rows-room (st .args .jb * st .args .pl .cc) (st .args .nj) (st .args .p) (st .args .p) (st .pre .cols) in
     omega (arith, st .pre)
 
 loop-holds : tie.Need-loop-holds Inv-loop μ-loop
@@ -72,7 +72,7 @@ add-block c =
     let g = st .args in
     let pre = st .pre in
     let h = row-room (at .loop .kb) (g .jb) (g .pl .cc) (omega arith) in
-    let k = rows-room (g .jb * g .pl .cc) (g .nj) (g .p) (pre .cols) in
+    let k = rows-room (g .jb * g .pl .cc) (g .nj) (g .p) (g .p) (pre .cols) in
     omega arith
 
 sub-block : tie.Need-sub-block Inv-loop μ-loop

@@ -1,5 +1,5 @@
 -- `lazy_rows::eighths` meets its contract. The invariant: of each eighth the first i elements are written. The measure: e - i. Assumes nothing.
-use Prim.Native.Nat.{_-_, _*_}
+use Prim.Native.Nat.{_-_}
 use native.Mathlib.Nat.{mul-assoc}
 use native.Mathlib.Omega.{arith}
 use Rattle.numbers.specs.Ops.{_⊗_}

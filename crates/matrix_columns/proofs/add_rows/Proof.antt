@@ -64,9 +64,8 @@ loop-again c =
     let n = next-row (at .loop .i) (start .args .cols) in (
       omega arith,
       omega arith,
-      summed-on (alike (start .pre) (at .loop .inv .2)) (at .loop .i) (at .loop .inv .2) (start .pre .room) 1 (omega arith) (λ k. at .loop .s ! (start .args .v + at .loop .i))
-          (λ k l. ap (λ (a : ℕ). at .loop .s ! a) (omega arith)) _ (at .loop .inv .1) _
-          (add .add-scaled .ensures ∙ ap (put _ _) (added-one _ _ _ _ _ _ _)),
+      summed-on (alike (start .pre) (at .loop .inv .2)) (at .loop .i) (at .loop .inv .2) (start .pre .room) 1 (omega arith) _ (λ k l. refl) _ (at .loop .inv .1) _
+          (add .add-scaled .ensures ∙ ap (put _ _) (added-one _ _ _ _ _ _ _ _ (ap (λ (a : ℕ). at .loop .s ! a) (omega arith)))),
     )
 
 same-length : tie.Need-same-length Inv-loop μ-loop

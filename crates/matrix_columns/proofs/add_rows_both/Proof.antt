@@ -86,10 +86,10 @@ loop-again c =
     let n = next-row i (g .cols) in (
       omega arith,
       omega arith,
-      summed-on (alike (start .pre .0) (d .2)) i (d .2) (start .pre .0 .room) 1 (omega arith) (λ k. at .loop .s ! (g .v + i))
-          (λ k l. ap (λ (a : ℕ). at .loop .s ! a) (omega arith)) _ (d .1) _ (add .add-scaled .ensures ∙ ap (put _ _) (added-one _ _ _ _ _ _ _)),
-      summed-on (alike (start .pre .1 .0) (d .2)) i (d .3) (omega (arith, start .pre .1 .1)) 1 (omega arith) (λ k. at .loop .s ! (g .w + i))
-          (λ k l. ap (λ (a : ℕ). at .loop .s ! a) (omega arith)) _ (d .1) _ (from .add-scaled-from .ensures ∙ ap (put _ _) (added-one _ _ _ _ _ _ _)),
+      summed-on (alike (start .pre .0) (d .2)) i (d .2) (start .pre .0 .room) 1 (omega arith) _ (λ k l. refl) _ (d .1) _
+          (add .add-scaled .ensures ∙ ap (put _ _) (added-one _ _ _ _ _ _ _ _ (ap (λ (a : ℕ). at .loop .s ! a) (omega arith)))),
+      summed-on (alike (start .pre .1 .0) (d .2)) i (d .3) (omega (arith, start .pre .1 .1)) 1 (omega arith) _ (λ k l. refl) _ (d .1) _
+          (from .add-scaled-from .ensures ∙ ap (put _ _) (added-one _ _ _ _ _ _ _ _ (ap (λ (a : ℕ). at .loop .s ! a) (omega arith)))),
     )
 
 same-length : tie.Need-same-length Inv-loop μ-loop

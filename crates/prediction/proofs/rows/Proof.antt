@@ -3,12 +3,12 @@
 use mathlib.Core.Path.{_≡_, _∙_}
 use mathlib.Core.List.{List}
 use Prim.Native.Nat.{ℕ, _-_, _*_, _/_, _≤_}
-use native.Mathlib.Nat.{zero-add, suc-mul, mul-le-mul, mul-le-mul-right}
+use native.Mathlib.Nat.{suc-mul, mul-le-mul, mul-le-mul-right}
 use native.Mathlib.Omega.{arith}
 use lib.Ieee.{Float}
 use Rattle.arrays.specs.Part.{put}
 use Rattle.arrays.proofs.Part.{length-tab, put-all}
-use Rattle.arrays.proofs.Turns.{Made, made-first, made-self, made-more, made-again, made-all}
+use Rattle.arrays.proofs.Turns.{Made, made-first, made-self, array-more, made-again, made-all}
 use Rattle.prediction.specs.Predict.{predictedOf}
 use Rattle.prediction.proofs.EachRow.{one, alone}
 use Rattle.prediction.proofs.rows.Statement.{statement}
@@ -75,7 +75,7 @@ loop-again c =
     let s = l .before .before .before .before .before .before .before .before in
     let g = s .args in
     let e = alone (g .p) (g .x .now) (g .w .now) (g .b) (l .loop .i) (s .pre .1 .0) in
-    rw (zero-add (l .loop .i)) at (made-more (l .loop .inv) (c .canonical .result) (omega arith) (rw (c .canonical .ensures, t .product .ensures) e))
+    array-more (l .loop .inv) (c .canonical .result) (omega arith) (rw (c .canonical .ensures, t .product .ensures) e)
 
 same-length : tie.Need-same-length Inv-loop μ-loop
 same-length c = omega arith

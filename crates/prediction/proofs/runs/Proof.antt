@@ -1,5 +1,5 @@
 -- `prediction::runs` meets its contract. The invariant: of each run the predictions of the first i rows are written. The measure: e - i. Assumes nothing.
-use Prim.Native.Nat.{_-_, _*_}
+use Prim.Native.Nat.{_-_}
 use native.Mathlib.Nat.{zero-add, suc-mul, mul-le-mul-right}
 use native.Mathlib.Omega.{arith}
 use Rattle.several.proofs.Runs.{Runs, runs-none, runs-spread, runs-all}

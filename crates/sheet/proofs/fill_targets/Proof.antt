@@ -1,11 +1,9 @@
 -- `sheet::fill_targets` meets its contract. The invariant: the first i scores are written, and `at` is the place of row i's score.
 -- The measure: n - i. Assumes nothing.
-use mathlib.Core.Path.{_≡_, sym, ap, _∙_}
+use mathlib.Core.Path.{_≡_, ap, _∙_}
 use Prim.Native.Nat.{_+_, _-_, _*_}
-use native.Mathlib.Nat.{zero-add}
 use native.Mathlib.Omega.{arith}
-use Rattle.arrays.proofs.Part.{length-tab, put-all}
-use Rattle.arrays.proofs.Turns.{Made, made-none, made-more, made-all}
+use Rattle.arrays.proofs.Turns.{Made, made-none, array-more, array-all}
 use Rattle.matrices.proofs.Lengths.{row-room, next-row}
 use Rattle.sheet.specs.Bytes.{float-at}
 use Rattle.sheet.specs.Sheet.{row-at, targetsOf}
@@ -61,7 +59,7 @@ loop-again c =
     let l = c .before .before in
     let g = l .before .before .before .args in
     let e = c .float-at .ensures ∙ ap (float-at (g .b .now)) (l .loop .inv .1) in
-    (rw zero-add at (made-more (l .loop .inv .0) _ (c .before .loop-test .taken) e), omega (arith, next-row (l .loop .i) (12 + 8 * g .p)))
+    (array-more (l .loop .inv .0) _ (c .before .loop-test .taken) e, omega (arith, next-row (l .loop .i) (12 + 8 * g .p)))
 
 same-length : tie.Need-same-length Inv-loop μ-loop
 same-length c = omega arith
@@ -70,8 +68,7 @@ returns : tie.Need-returns Inv-loop μ-loop
 unfolding targetsOf
 returns c =
     let l = c .before in
-    let s = l .before .before .before in
-    made-all (l .loop .inv .0) (omega arith) ∙ put-all _ _ (length-tab _ _ ∙ sym (s .pre .1 .1))
+    array-all (l .loop .inv .0) (omega arith) (l .before .before .before .pre .1 .1)
 
 pub fill-targets-spec : {M : Type 1} → statement M
 fill-targets-spec =

@@ -8,7 +8,7 @@ use native.Mathlib.Omega.{arith}
 use lib.ListN.{length}
 use lib.Ieee.{Float, nan}
 use Rattle.arrays.specs.Part.{put, tab}
-use Rattle.arrays.proofs.Part.{part-put-same, getD-tab, getD-part, length-tab, length-put}
+use Rattle.arrays.proofs.Part.{length-put, getD-put-tab}
 use Rattle.arrays.specs.Sums.{_!_}
 use Rattle.arrays.specs.declared.scan.Found.the-variants.{Clean, At}
 use Rattle.design.specs.Statistics.{isConstant, constantFrom, constantOf}
@@ -17,11 +17,7 @@ use Rattle.design.proofs.statistics.first_constant.Tie as tie
 
 -- the deviation of column j stands behind 64 words
 read : (t₀ t xs : List Float) (f : ℕ → Float) (p j : ℕ) → t ≡ put (put t₀ 0 xs) 64 (tab f p) → 64 + p ≤ length t₀ → j < p → t ! (64 + j) ≡ f j
-read t₀ t xs f p j e room h =
-    rw e
-    (sym (getD-part _ 64 p j nan h)
-    ∙ ap (λ (l : List Float). l ! j) (part-put-same (put t₀ 0 xs) 64 (tab f p) p (length-tab f p) (rw length-put room))
-    ∙ getD-tab f p j nan h)
+read t₀ t xs f p j e room h = rw e (getD-put-tab (put t₀ 0 xs) 64 f p j nan (rw length-put room) h)
 
 module _ (m : List Float) (n p j : ℕ) where
   left : j < p → constantFrom m n p (p - j) j ≡ constantFrom m n p (suc (p - (j + 1))) j
