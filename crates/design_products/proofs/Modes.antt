@@ -15,14 +15,22 @@ use Rattle.layout.specs.Slots.{Slot.DESIGN}
 use Rattle.lazy_normalization.specs.Lazy.{lazyRows, lazyColumns, Reads}
 use Rattle.design_products.specs.Mode.{matvecOf, transposedOf, Held}
 
--- a product of the transposed stored design
-pub stored-product : {sh : Sizes} {l : Places} {m s : List Float} (h : Held sh l m s) (v : ℕ) (t : Terms) → sh .lazy ≡ false
-    → columnsOf (part s (l .design) (sh .stored * sh .p)) (sh .stored) (sh .p) (part s v (sh .stored)) ≡ transposedOf sh t m (vars sh s) (part s v (sh .k))
-unfolding transposedOf
-stored-product {sh} {s = s} h v t z =
-    rw z
-    (ap (λ (a : ℕ). columnsOf (part s a (sh .stored * sh .p)) (sh .stored) (sh .p) (part s v (sh .stored))) (h .room .laid .at-design)
-    ∙ ap (λ (i : ℕ). columnsOf (vars sh s DESIGN) (sh .stored) (sh .p) (part s v i)) (h .stored z))
+-- a product of the transposed design, wherever it is written
+module _ {sh : Sizes} {l : Places} {m s : List Float} (h : Held sh l m s) (v : ℕ) (t : Terms) (d : List Float) (out : ℕ) {d′ : List Float} where
+  pub lazy-columns : sh .lazy ≡ true
+      → d′ ≡ put d out (lazyColumns (sh .n) (sh .p) t m (part s (l .centre) (sh .p)) (part s (l .scale) (sh .p)) (part s (l .recip) (sh .p)) (part s v (sh .n + sh .p)))
+      → d′ ≡ put d out (transposedOf sh t m (vars sh s) (part s v (sh .k)))
+  unfolding transposedOf
+  lazy-columns z e = rw (z, h .all) (rw (h .room .laid .at-centre, h .room .laid .at-scale, h .room .laid .at-recip) at e)
+
+  pub stored-columns : sh .lazy ≡ false
+      → d′ ≡ put d out (columnsOf (part s (l .design) (sh .stored * sh .p)) (sh .stored) (sh .p) (part s v (sh .stored)))
+      → d′ ≡ put d out (transposedOf sh t m (vars sh s) (part s v (sh .k)))
+  unfolding transposedOf
+  stored-columns z e =
+      rw z
+      (rw (h .room .laid .at-design) at e
+      ∙ ap (λ (i : ℕ). put d out (columnsOf (vars sh s DESIGN) (sh .stored) (sh .p) (part s v i))) (h .stored z))
 
 module _ (sh : Sizes) (l : Places) (m s : List Float) (h : Held sh l m s) (v out : ℕ) where
   -- from below the columns' numbers to above the Gram
@@ -79,14 +87,3 @@ module _ (sh : Sizes) (l : Places) (m s : List Float) (h : Held sh l m s) (v out
         → s′ ≡ put s out (matvecOf sh t m (vars sh s) (part s v (sh .p)))
     unfolding matvecOf
     stored-rows z e = rw z (rw (h .room .laid .at-design) at e)
-
-    pub lazy-columns : sh .lazy ≡ true
-        → s′ ≡ put s out (lazyColumns (sh .n) (sh .p) t m (part s (l .centre) (sh .p)) (part s (l .scale) (sh .p)) (part s (l .recip) (sh .p)) (part s v (sh .n + sh .p)))
-        → s′ ≡ put s out (transposedOf sh t m (vars sh s) (part s v (sh .k)))
-    unfolding transposedOf
-    lazy-columns z e = rw (z, h .all) (rw (h .room .laid .at-centre, h .room .laid .at-scale, h .room .laid .at-recip) at e)
-
-    pub stored-columns : sh .lazy ≡ false
-        → s′ ≡ put s out (columnsOf (part s (l .design) (sh .stored * sh .p)) (sh .stored) (sh .p) (part s v (sh .stored)))
-        → s′ ≡ put s out (transposedOf sh t m (vars sh s) (part s v (sh .k)))
-    stored-columns z e = e ∙ ap (put s out) (stored-product h v t z)

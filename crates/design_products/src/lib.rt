@@ -3,7 +3,6 @@ use layout::Places;
 use layout::Sizes;
 use settings::Terms;
 ghost use mathlib.Core.Path.{_≡_};
-ghost use mathlib.Core.Bool.{false};
 ghost use Prim.Native.Nat.{_+_, _≤_};
 ghost use lib.ListN.{length};
 ghost use Rattle.arrays.specs.Part.{part, put};
@@ -42,7 +41,7 @@ pub fn transposed(m: &[f64], sh: Sizes, t: Terms, s: &mut [f64], l: Places, v: u
     matrix_columns::columns(s, l.design, sh.stored, sh.p, v, out);
 }
 
-// Two such products of a stored design in one pass over it: of the vector at v, and of the one at w into the first of t.
+// Two such products in one pass: of the vector at v, and of the one at w into the first of t.
 pub fn transposed_both(
     m: &[f64],
     sh: Sizes,
@@ -55,7 +54,6 @@ pub fn transposed_both(
     t: &mut [f64],
 )
     requires { ⌜ Held sh l (now m) (now s) ⌝ }
-    requires { ⌜ sh .lazy ≡ false ⌝ }
     requires { ⌜ out + sh .p ≤ l .centre ⌝ }
     requires { ⌜ l .y ≤ v ⌝ }
     requires { ⌜ v + sh .k ≤ l .design ⌝ }
@@ -67,5 +65,9 @@ pub fn transposed_both(
     ensures { λ _. ⌜ now (t .exit)
         ≡ put (now (t .entry)) 0 (transposedOf sh tm (now (m .entry)) (vars sh (now (s .entry))) (part (now (s .entry)) w (sh .k))) ⌝ }
 {
+    if sh.lazy {
+        lazy_columns_both::columns_both(m, sh.n, sh.p, tm, s, l, v, out, w, t);
+        return;
+    }
     matrix_columns::columns_both(s, l.design, sh.stored, sh.p, v, out, w, t);
 }

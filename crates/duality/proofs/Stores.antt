@@ -1,6 +1,6 @@
 -- The calls of `start_residuals`, of `residuals`, of `shrink` and of `gap` in a row, and what they leave together. Assumes nothing.
 use mathlib.Core.Path.{_≡_, refl, sym, ap, _∙_, fun-ext, subst}
-use mathlib.Core.Bool.{Bool, true, false, cond, true≢false}
+use mathlib.Core.Bool.{Bool, true, false, cond}
 use mathlib.Core.List.{List}
 use Prim.Native.Nat.{_≤_}
 use native.Mathlib.Omega.{arith}
@@ -38,11 +38,11 @@ known-start sh t m v h q = fun-ext (λ s. go s (eqb (num s) (num Z)))
     go s true = sym (h q)
     go s false = refl
 
--- the product of z is the same after xnu is written, and after nu is made smaller; in a lazy fit none is asked for
+-- the product of z is the same after xnu is written, and after nu is made smaller
 after-xnu : (sh : Sizes) (t : Terms) (m : List Float) (v : Store) (f : Store → List Float) (g : List Float)
     → part g 0 (sh .p) ≡ transposedOf sh t m v (v Z) → Gradphi sh t m (v ⟨ XNU ≔ f ⟩) g
 unfolding Gradphi transposedOf _⟨_≔_⟩ upd
-after-xnu sh t m v f g q z = q
+after-xnu sh t m v f g q = q
 
 after-shrink : (sh : Sizes) (t : Terms) (m : List Float) (v : Store) (most : Float) (g : List Float)
     → Gradphi sh t m v g → Gradphi sh t m (shrunkStore sh t most v) g
@@ -51,10 +51,6 @@ after-shrink sh t m v most g h = go (lt (t .lambda) most) where
   go : (b : Bool) → Gradphi sh t m (cond b (v ⟨ NU ≔ (λ u. mapOf (λ (a : Float). a ⊗ (t .lambda ⊘ most)) (sh .k) (u NU)) ⟩) v) g
   go true = h
   go false = h
-
-pub gradphi-lazy : (sh : Sizes) (t : Terms) (m : List Float) (v : Store) (g : List Float) → sh .lazy ≡ true → Gradphi sh t m v g
-unfolding Gradphi
-gradphi-lazy sh t m v g l z = absurd (true≢false (sym l ∙ z))
 
 module _ {sh : Sizes} {l : Places} {m s : List Float} (h : Held sh l m s) (t : Terms) where
   pub started : {s₁ s₂ : List Float} → s₁ ≡ put s (l .z) (matvecOf sh t m (vars sh s) (part s (l .w) (sh .p)))

@@ -6,7 +6,6 @@ use arrays::vectors::copy;
 use arrays::vectors::sub;
 use arrays::vectors::times;
 use design_products::matvec;
-use design_products::transposed;
 use design_products::transposed_both;
 use layout::Places;
 use layout::Sizes;
@@ -46,8 +45,8 @@ fn start_residuals(m: &[f64], sh: Sizes, t: Terms, s: &mut [f64], l: Places, kno
     sub(s, l.z, l.z, l.y, sh.k);
 }
 
-// Writes z; nu, twice z; and xnu, the transposed design times nu. Where the design is stored it answers gradphi, its transpose times z: the design is read from
-// memory once for both products.
+// Writes z; nu, twice z; and xnu, the transposed design times nu. It answers gradphi, the transposed design times z: the design is read, or its entries are
+// made, once for both products.
 fn residuals(m: &[f64], sh: Sizes, t: Terms, s: &mut [f64], l: Places, known: bool) -> [f64; 64]
     requires { ⌜ Held sh l (now m) (now s) ⌝ }
     requires { ⌜ Known sh t (now m) known (vars sh (now s)) ⌝ }
@@ -57,10 +56,6 @@ fn residuals(m: &[f64], sh: Sizes, t: Terms, s: &mut [f64], l: Places, known: bo
     start_residuals(m, sh, t, s, l, known);
     times(s, l.nu, 2.0, l.z, sh.k);
     let mut r = [0.0; 64];
-    if sh.lazy {
-        transposed(m, sh, t, s, l, l.nu, l.xnu);
-        return r;
-    }
     transposed_both(m, sh, t, s, l, l.nu, l.xnu, l.z, &mut r);
     r
 }
@@ -93,7 +88,7 @@ fn primal_and_dual(s: &[f64], sh: Sizes, t: Terms, l: Places, dual: f64) -> Obje
 }
 
 // The gap between the primal value of the weights and the best dual value so far, and that value. `dual` is the best one before.
-// Where `known`, newz holds the residuals already. Of a stored design gradphi comes with them, for the Newton part.
+// Where `known`, newz holds the residuals already. gradphi comes with them, for the Newton part.
 pub fn gap(
     m: &[f64],
     sh: Sizes,

@@ -1,6 +1,5 @@
 -- The gap part's second product, which the Newton part begins with. Inner definition: no promise names it.
 use mathlib.Core.Path.{_≡_}
-use mathlib.Core.Bool.{false}
 use mathlib.Core.List.{List}
 use lib.Ieee.{Float}
 use Rattle.arrays.specs.Part.{part}
@@ -9,6 +8,6 @@ use Rattle.layout.specs.declared.Sizes.{Sizes}
 use Rattle.layout.specs.Slots.{Store, Slot.Z}
 use Rattle.design_products.specs.Mode.{transposedOf}
 
--- where the design is stored, g begins with gradphi, the transposed design times z; in a lazy fit g is not read
+-- g begins with gradphi, the transposed design times z
 unfoldable pub Gradphi : Sizes → Terms → List Float → Store → List Float → Type 0
-Gradphi sh tm m v g = sh .lazy ≡ false → part g 0 (sh .p) ≡ transposedOf sh tm m v (v Z)
+Gradphi sh tm m v g = part g 0 (sh .p) ≡ transposedOf sh tm m v (v Z)

@@ -1,2 +1,2 @@
 mod There
-mod ColumnSums
+pub mod ColumnSums

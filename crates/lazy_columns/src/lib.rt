@@ -59,7 +59,7 @@ fn add_fours(m: &[f64], n: usize, p: usize, s: &mut [f64], l: Places, v: usize, 
 }
 
 // Whether every reciprocal is there, so that nothing divides.
-fn all_there(s: &[f64], rc: usize, p: usize) -> bool
+pub fn all_there(s: &[f64], rc: usize, p: usize) -> bool
     requires { ⌜ rc + p ≤ length (now s) ⌝ }
     ensures { λ r. ⌜ r ≡ allThere (part (now (s .entry)) rc p) p ⌝ }
 {
@@ -111,7 +111,7 @@ fn add_row(m: &[f64], i: usize, at: usize, p: usize, x: f64, s: &mut [f64], l: P
 }
 
 // gamma times each sum, plus padding times the tail.
-fn augment(s: &mut [f64], out: usize, t: Terms, tail: usize, p: usize)
+pub fn augment(s: &mut [f64], out: usize, t: Terms, tail: usize, p: usize)
     requires { ⌜ Two (now s) out out tail p ⌝ }
     ensures { λ _. ⌜ now (s .exit)
         ≡ put (now (s .entry)) out (zipOf (λ (v w : Float). t .gamma ⊗ v ⊕ t .padding ⊗ w) p (part (now (s .entry)) out p) (part (now (s .entry)) tail p)) ⌝ }

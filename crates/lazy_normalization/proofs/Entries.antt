@@ -37,3 +37,18 @@ unwritten-of {p = p} {l = l} {v} {nv} r kept = record {
 pub while-made : {m : List Float} {n p : ℕ} {s₁ : List Float} {l : Places} {v nv out no : ℕ} → Reads m n p s₁ l v nv out no
     → {s₀ s : List Float} {k i : ℕ} {f : ℕ → Float} → k ≤ no → Made s₀ out k f s i → Unwritten s₀ s p l v nv
 while-made r q d = unwritten-of r (λ a k off _. part-kept d a k (λ h. omega (arith, off h)))
+
+-- memory that is as long
+pub reads-on : {m : List Float} {n p : ℕ} {s s′ : List Float} {l : Places} {v nv out no : ℕ} → Reads m n p s l v nv out no → length s′ ≡ length s → Reads m n p s′ l v nv out no
+reads-on r e = record {
+  matrix = r .matrix;
+  rows = r .rows;
+  columns = r .columns;
+  centres = r .centres;
+  scales = r .scales;
+  reciprocals = omega arith;
+  vector = omega arith;
+  room = omega arith;
+  off-columns = r .off-columns;
+  off-vector = r .off-vector;
+}

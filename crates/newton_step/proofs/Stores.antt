@@ -1,6 +1,5 @@
 -- What the calls of each function leave together, over the store. Assumes nothing.
 use mathlib.Core.Path.{_≡_, ap, _∙_}
-use mathlib.Core.Bool.{false}
 use mathlib.Core.List.{List}
 use Prim.Native.Nat.{ℕ, _+_, _≤_}
 use native.Mathlib.Omega.{arith}
@@ -42,10 +41,10 @@ unfolding Gradphi transposedOf barrierStore _⟨_≔_⟩ upd
 after-barrier sh tm d t v g h = h
 
 -- a copy of it
-pub gradphi-copied : {sh : Sizes} {l : Places} (w : Laid sh l) (tm : Terms) (d g s : List Float) {s′ : List Float} → sh .lazy ≡ false → Gradphi sh tm d (vars sh s) g
+pub gradphi-copied : {sh : Sizes} {l : Places} (w : Laid sh l) (tm : Terms) (d g s : List Float) {s′ : List Float} → Gradphi sh tm d (vars sh s) g
     → s′ ≡ put s (l .xnu) (part g 0 (sh .p)) → s′ ≡ put s (l .xnu) (transposedOf sh tm d (vars sh s) (part s (l .z) (sh .k)))
 unfolding Gradphi
-gradphi-copied {sh} {l} w tm d g s z h e = rw (w .at-z) (e ∙ ap (put s (l .xnu)) (h z))
+gradphi-copied {sh} {l} w tm d g s h e = rw (w .at-z) (e ∙ ap (put s (l .xnu)) h)
 
 module _ {sh : Sizes} {l : Places} (w : Laid sh l) {e : List Float} {v : Store} {m : List Float} (h : Has sh e v m) where
   pub barrier-left : (t : Float) {m₁ m₂ m₃ m₄ : List Float}

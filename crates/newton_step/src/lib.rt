@@ -1,6 +1,5 @@
 // The Newton part of an opening: the barrier's terms, the gradient and the preconditioner, for the weight t of the barrier.
 use arrays::vectors::copy_from;
-use design_products::transposed;
 use layout::Places;
 use layout::Sizes;
 use newton::difference_of_squares;
@@ -31,17 +30,13 @@ fn barrier(s: &mut [f64], sh: Sizes, l: Places, t: f64)
     difference_of_squares(s, l.d2, l.q1, l.q2, t, sh.p);
 }
 
-// gradphi, in the place of xnu: g where the design is stored, so that it is not read again.
+// gradphi, in the place of xnu: g, so that the design is not read again.
 fn gradphi(m: &[f64], sh: Sizes, tm: Terms, s: &mut [f64], l: Places, g: [f64; 64])
     requires { ⌜ Held sh l (now m) (now s) ⌝ }
     requires { ⌜ Gradphi sh tm (now m) (vars sh (now s)) g ⌝ }
     ensures { λ _. ⌜ now (s .exit)
         ≡ put (now (s .entry)) (l .xnu) (transposedOf sh tm (now (m .entry)) (vars sh (now (s .entry))) (part (now (s .entry)) (l .z) (sh .k))) ⌝ }
 {
-    if sh.lazy {
-        transposed(m, sh, tm, s, l, l.z, l.xnu);
-        return;
-    }
     copy_from(s, l.xnu, &g, 0, sh.p);
 }
 

@@ -16,7 +16,7 @@ returns : tie.Need-returns
 returns c =
     let r = c .before .before in
     let g = r .before .before .before .before .before in
-    lazy-columns _ _ _ _ (g .pre .0) _ _ _ _ (r .before .before .if1 .taken) (r .columns .ensures)
+    lazy-columns (g .pre .0) _ _ _ _ (r .before .before .if1 .taken) (r .columns .ensures)
 
 columns-requires-2 : tie.Need-columns-requires-2
 columns-requires-2 c κs =
@@ -30,7 +30,7 @@ returns-2 : tie.Need-returns-2
 returns-2 c =
     let r = c .before .before in
     let g = r .before .before .before .before .before in
-    stored-columns _ _ _ _ (g .pre .0) _ _ _ _ (r .before .before .if1 .left) (r .columns2 .ensures)
+    stored-columns (g .pre .0) _ _ _ _ (r .before .before .if1 .left) (r .columns2 .ensures)
 
 pub transposed-spec : {M : Type 1} → statement M
 transposed-spec = tie.close (tie.spec columns-requires same-length returns columns-requires-2 same-length-2 returns-2)

@@ -20,7 +20,7 @@ abbrev μ-loop2 : tie.MeasureT-loop2
 μ-loop2 m i p s out x ce rc at j c by t₀ k₀ t k = 4 - k
 
 abbrev Inv-loop : tie.InvT-loop
-Inv-loop m i p s₀ out x ce rc at j₀ s j = Made s₀ out p (fourSum m s₀ p ce rc out i x) s j
+Inv-loop m i p s₀ out x ce rc at j₀ s j = Made s₀ out p (fourSum m s₀ p ce rc s₀ out i x) s j
 
 abbrev μ-loop : tie.MeasureT-loop
 μ-loop m i p s₀ out x ce rc at j₀ s j = p - j
@@ -115,7 +115,7 @@ loop-again c =
     let turn = c .before .before .before .before .before in
     let at = turn .before in
     let e : c .before .loop2 .k ≡ 4 = omega arith in
-    four-more (at .before .pre) (at .before .args .t4) (at .loop .inv) (turn .loop-test .taken) (rw e at (c .before .loop2 .inv .1))
+    four-more (at .before .pre) (at .before .args .t4) (at .loop .inv) (turn .loop-test .taken) (at .loop .inv) (rw e at (c .before .loop2 .inv .1))
 
 same-length : tie.Need-same-length Inv-loop2 μ-loop2 Inv-loop μ-loop
 same-length c = omega arith
@@ -123,7 +123,7 @@ same-length c = omega arith
 returns : tie.Need-returns Inv-loop2 μ-loop2 Inv-loop μ-loop
 returns c =
     let start = c .before .before in
-    made-all (c .before .loop .inv) (omega arith) ∙ ap (put _ _) (four-all (start .pre) (start .args .t4))
+    made-all (c .before .loop .inv) (omega arith) ∙ ap (put _ _) (four-all (start .pre) (start .args .t4) _ _)
 
 pub add-four-spec : {M : Type 1} → statement M
 add-four-spec =

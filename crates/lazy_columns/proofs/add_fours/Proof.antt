@@ -7,7 +7,7 @@ use Rattle.arrays.proofs.Scans.{denied, granted}
 use Rattle.arrays.proofs.Turns.{Made, made-all}
 use Rattle.lazy_normalization.proofs.Entries.{while-made}
 use Rattle.lazy_columns.specs.ColumnSums.{lazyAdded}
-use Rattle.lazy_columns.proofs.ColumnSums.{columnSum, columns-none, columns-four}
+use Rattle.lazy_columns.proofs.ColumnSums.{columnSum, sums-none, columns-four}
 use Rattle.lazy_columns.proofs.add_fours.Statement.{statement}
 use Rattle.lazy_columns.proofs.add_fours.Tie as tie
 
@@ -29,12 +29,12 @@ returns c =
     let there = c .before in
     let g = there .before .before .before .before .args in
     let missing = sym (there .all-there .ensures) ∙ denied _ (c .if1 .taken) in
-    (rw missing, columns-none (g .m .now) (g .s .now) (g .p) (g .l) (g .out) (g .v) (g .n + g .p) (omega arith) .is)
+    (rw missing, sums-none (g .m .now) (g .s .now) (g .p) (g .l) (g .s .now) (g .out) (g .v) (g .n + g .p) (omega arith) .is)
 
 loop-holds : tie.Need-loop-holds Inv-loop μ-loop
 loop-holds c =
     let g = c .before .before .before .before .before .args in
-    (omega arith, columns-none (g .m .now) (g .s .now) (g .p) (g .l) (g .out) (g .v) (g .n + g .p) (omega arith))
+    (omega arith, sums-none (g .m .now) (g .s .now) (g .p) (g .l) (g .s .now) (g .out) (g .v) (g .n + g .p) (omega arith))
 
 mul-four-at : tie.Need-mul-four-at Inv-loop μ-loop
 mul-four-at c = omega arith

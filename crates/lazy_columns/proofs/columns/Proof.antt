@@ -11,6 +11,7 @@ use lib.Ieee.{Float}
 use Rattle.arrays.specs.Part.{part}
 use Rattle.arrays.proofs.Turns.{Made, made-of}
 use Rattle.matrices.proofs.Lengths.{row-room, next-row}
+use Rattle.lazy_normalization.proofs.Entries.{reads-on}
 use Rattle.lazy_columns.specs.ColumnSums.{lazyAdded, allThere}
 use Rattle.lazy_columns.proofs.ColumnSums.{columnSum, columns-more, columns-all, columns-end}
 use Rattle.lazy_columns.proofs.columns.Statement.{statement}
@@ -37,18 +38,7 @@ fill-requires c κs = omega arith
 add-fours-requires : tie.Need-add-fours-requires Inv-loop μ-loop
 add-fours-requires c κs =
     let start = c .before .before .before .before .before .before .before in
-    record {
-      matrix = start .pre .matrix;
-      rows = start .pre .rows;
-      columns = start .pre .columns;
-      centres = start .pre .centres;
-      scales = start .pre .scales;
-      reciprocals = omega arith;
-      vector = omega arith;
-      room = omega arith;
-      off-columns = start .pre .off-columns;
-      off-vector = start .pre .off-vector;
-    }
+    reads-on (start .pre) (omega arith)
 
 mul-at : tie.Need-mul-at Inv-loop μ-loop
 mul-at c =
