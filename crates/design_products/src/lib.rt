@@ -41,7 +41,7 @@ pub fn transposed(m: &[f64], sh: Sizes, t: Terms, s: &mut [f64], l: Places, v: u
     matrix_columns::columns(s, l.design, sh.stored, sh.p, v, out);
 }
 
-// Two such products in one pass: of the vector at v, and of the one at w into the first of t.
+// Two such products, in one pass where no reciprocal is missing: of the vector at v, and of the one at w into the first of t.
 pub fn transposed_both(
     m: &[f64],
     sh: Sizes,

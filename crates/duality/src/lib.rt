@@ -45,8 +45,8 @@ fn start_residuals(m: &[f64], sh: Sizes, t: Terms, s: &mut [f64], l: Places, kno
     sub(s, l.z, l.z, l.y, sh.k);
 }
 
-// Writes z; nu, twice z; and xnu, the transposed design times nu. It answers gradphi, the transposed design times z: the design is read, or its entries are
-// made, once for both products.
+// Writes z; nu, twice z; and xnu, the transposed design times nu. It answers gradphi, the transposed design times z: the design is read, or its entries are made,
+// once for both products where no reciprocal is missing.
 fn residuals(m: &[f64], sh: Sizes, t: Terms, s: &mut [f64], l: Places, known: bool) -> [f64; 64]
     requires { ⌜ Held sh l (now m) (now s) ⌝ }
     requires { ⌜ Known sh t (now m) known (vars sh (now s)) ⌝ }

@@ -23,7 +23,7 @@ use Rattle.lazy_columns_both.specs.Both.{addedFrom, TwoRead}
 use Rattle.lazy_columns.proofs.ColumnSums.{summed, written, sums-on}
 
 -- the transposed design, with the columns' numbers that lie in s, times the vector at v
-abbrev pub productAt : List Float → ℕ → ℕ → Terms → List Float → Places → ℕ → List Float
+abbrev productAt : List Float → ℕ → ℕ → Terms → List Float → Places → ℕ → List Float
 productAt m n p t s l v = lazyColumns n p t m (part s (l .centre) p) (part s (l .scale) p) (part s (l .recip) p) (part s v (n + p))
 
 -- the second product first, and its sums copied before the first one is made in their place
@@ -105,13 +105,12 @@ all-rows {m} {n} {p} {s} {s₁} {l} {v} r d t t₁ t₂ at room e d₂ =
     (made-again none (λ j. products (tab (λ i. plus0) p ! j) (λ a. design m s₁ p l a j) (λ a. part s₁ v (n + p) ! a) n) t₂
     (d₂ .is ∙ ap (put t₁ at) (tab-ext _ _ p (λ j h. rw (written none room j h, getD-tab (λ i. plus0) p j nan h)))) .is)
 
-pub finished : {m : List Float} {n p : ℕ} {s : List Float} {l : Places} {v out : ℕ} → Reads m n p s l v (n + p) out p → (tm : Terms) (t t₁ t₂ : List Float) (at : ℕ)
-    → at + p ≤ length t
+pub finished : (m : List Float) (n p : ℕ) (s : List Float) (l : Places) (v : ℕ) (tm : Terms) (t t₁ t₂ : List Float) (at : ℕ) → at + p ≤ length t
     → t₁ ≡ put t at (lazyAdded n p m (part s (l .centre) p) (part s (l .scale) p) (part s (l .recip) p) (part s v (n + p)) (fillOf plus0 p))
     → (s₁ : List Float) → part s₁ v (n + p) ≡ part s v (n + p)
     → t₂ ≡ put t₁ at (zipOf (λ (x y : Float). tm .gamma ⊗ x ⊕ tm .padding ⊗ y) p (part t₁ at p) (part s₁ (v + n) p)) → t₂ ≡ put t at (productAt m n p tm s l v)
 unfolding fillOf lazyAdded zipOf lazyColumns
-finished {m} {n} {p} {s} {l} {v} r tm t t₁ t₂ at room e₁ s₁ same e₂ =
+finished m n p s l v tm t t₁ t₂ at room e₁ s₁ same e₂ =
     let d = made-of t at p _ t₁ e₁ in
     made-again d (λ j. tm .gamma ⊗ products plus0 (λ a. design m s p l a j) (λ a. part s v (n + p) ! a) n ⊕ tm .padding ⊗ part s v (n + p) ! (n + j)) t₂ (e₂ ∙ ap (put t₁ at) (tab-ext _ _ p (λ j h. rw (written d room j h, getD-tab (λ i. plus0) p j nan h, tail j h)))) .is where
       tail : (j : ℕ) → j < p → part s₁ (v + n) p ! j ≡ part s v (n + p) ! (n + j)

@@ -165,7 +165,7 @@ fn add_four(
     }
 }
 
-// The rows that are left.
+// The rows that are left, added to both sums.
 fn add_rest(
     m: &[f64],
     n: usize,

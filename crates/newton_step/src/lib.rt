@@ -30,7 +30,7 @@ fn barrier(s: &mut [f64], sh: Sizes, l: Places, t: f64)
     difference_of_squares(s, l.d2, l.q1, l.q2, t, sh.p);
 }
 
-// gradphi, in the place of xnu: g, so that the design is not read again.
+// gradphi, in the place of xnu: g, so that the design is not read again. Of the matrix and the terms only the promise speaks.
 fn gradphi(m: &[f64], sh: Sizes, tm: Terms, s: &mut [f64], l: Places, g: [f64; 64])
     requires { ⌜ Held sh l (now m) (now s) ⌝ }
     requires { ⌜ Gradphi sh tm (now m) (vars sh (now s)) g ⌝ }

@@ -51,8 +51,8 @@ returns c =
     let g = start .args in
     let own = both .sums .ensures .0 in
     let added = added-length (g .n) (g .p) (g .m .now) in (
-      finished (start .pre .first) (g .t) _ _ _ _ (start .pre .first .room) own _ (sums-kept (start .pre .first) _ (added _ _ _ _ _) own) (augmented .augment .ensures),
-      finished (start .pre .second) (g .t) _ _ _ 0 (omega arith) (both .sums .ensures .1) _
+      finished (g .m .now) (g .n) (g .p) (g .s .now) (g .l) (g .v) (g .t) _ _ _ _ (start .pre .first .room) own _ (sums-kept (start .pre .first) _ (added _ _ _ _ _) own) (augmented .augment .ensures),
+      finished (g .m .now) (g .n) (g .p) (g .s .now) (g .l) (g .w) (g .t) _ _ _ 0 (omega arith) (both .sums .ensures .1) _
           (sums-kept (reads-on (start .pre .second) (omega arith)) _ (length-zip _ _ _ _) (augmented .augment .ensures) ∙ sums-kept (start .pre .second) _ (added _ _ _ _ _) own)
           (in-two (g .t) (g .p) _ _ _ _ (omega arith) (by-gamma .times .ensures) (scaled .add-scaled-from .ensures)),
     )
