@@ -88,9 +88,9 @@ four-read s v i q a h =
 pub written : {s₀ s : List Float} {out p : ℕ} {f : ℕ → Float} → Made s₀ out p f s p → out + p ≤ length s₀ → (j : ℕ) → j < p → part s out p ! j ≡ f j
 written {s₀} {s} {out} {p} {f} d room j h = getD-part s out p j nan h ∙ rw (d .is) (getD-put-tab s₀ out f p j nan room h)
 
--- no row yet
-pub sums-none : (m s : List Float) (p : ℕ) (l : Places) (t : List Float) (out v nv : ℕ) → out + p ≤ length t → Made t out p (summed m s p l t out v nv 0) t p
-sums-none m s p l t out v nv room = made-of t out p _ t (sym (put-self t out _ p nan room (λ j h. fold-none _ _ _ ∙ getD-part t out p j nan h)))
+-- no row yet, whatever rows will be added
+pub sums-none : (t : List Float) (out p : ℕ) (f g : ℕ → ℕ → Float) → out + p ≤ length t → Made t out p (λ j. products (part t out p ! j) (f j) (g j) 0) t p
+sums-none t out p f g room = made-of t out p _ t (sym (put-self t out _ p nan room (λ j h. fold-none _ _ _ ∙ getD-part t out p j nan h)))
 
 -- `count` rows more: f has the vector's next elements, and what is read is as it was in s₀
 pub sums-on : (m : List Float) {s₀ s : List Float} {p : ℕ} {l : Places} {v nv : ℕ} → Unwritten s₀ s p l v nv → {t₀ t : List Float} {out : ℕ} (i count : ℕ)

@@ -8,11 +8,12 @@ use lib.ListN.{length}
 use lib.Ieee.{Float, binary64, nan}
 use Rattle.numbers.specs.Ops.{_⊕_, _⊗_}
 use Rattle.arrays.specs.Part.{part, put, tab}
-use Rattle.arrays.proofs.Part.{tab-ext, getD-tab, getD-part, length-tab, part-put-same, part-put-apart, apart-of, put-self}
+use Rattle.arrays.proofs.Part.{tab-ext, getD-tab, getD-part, length-tab, part-put-same, part-put-apart, apart-of}
 use Rattle.arrays.specs.Sums.{_!_, products, plus0}
-use Rattle.arrays.proofs.Folds.{fold-none, fold-turn}
+use Rattle.arrays.proofs.Folds.{fold-turn}
 use Rattle.arrays.proofs.Commute.{times-comm}
 use Rattle.arrays.specs.Vectors.{fillOf, mapOf, zipOf}
+use Rattle.arrays.proofs.Lengths.{length-fill}
 use Rattle.arrays.proofs.Turns.{Made, made-of, made-again}
 use Rattle.layout.specs.declared.Places.{Places}
 use Rattle.settings.specs.declared.Terms.{Terms}
@@ -44,17 +45,17 @@ in-turn {p = p} {s = s} {out = out} r w t s₁ s₂ y y₁ e₁ ey e₂ =
 abbrev pub fromRow : List Float → List Float → ℕ → Places → List Float → ℕ → ℕ → ℕ → ℕ → ℕ → Float
 fromRow m s p l t out v i count j = products (part t out p ! j) (λ k. design m s p l (i + k) j) (λ k. s ! (v + (i + k))) count
 
-pub from-none : (m s : List Float) (p : ℕ) (l : Places) (t : List Float) (out v i : ℕ) → out + p ≤ length t → Made t out p (fromRow m s p l t out v i 0) t p
-from-none m s p l t out v i room = made-of t out p _ t (sym (put-self t out _ p nan room (λ j h. fold-none _ _ _ ∙ getD-part t out p j nan h)))
-
--- one row more: e has its entries, and x is the vector's element
+-- one row more: e begins with its entries, and x is the vector's element
 pub from-more : (m : List Float) {s₀ s : List Float} {p : ℕ} {l : Places} {v nv : ℕ} → Unwritten s₀ s p l v nv → {t₀ t : List Float} {out : ℕ} (i count : ℕ)
     → Made t₀ out p (fromRow m s₀ p l t₀ out v i count) t p → out + p ≤ length t₀ → i + count < nv → (e : List Float)
-    → part e 0 p ≡ tab (λ j. design m s p l (i + count) j) p → (x : Float) → x ≡ s ! (v + (i + count)) → (u : List Float)
+    → e ≡ put (fillOf plus0 64) 0 (tab (λ j. design m s p l (i + count) j) p) → p ≤ 64 → (x : Float) → x ≡ s ! (v + (i + count)) → (u : List Float)
     → u ≡ put t out (zipOf (λ (a w : Float). a ⊕ x ⊗ w) p (part t out p) (part e 0 p)) → Made t₀ out p (fromRow m s₀ p l t₀ out v i (count + 1)) u p
 unfolding zipOf
-from-more m {s₀} {s} {p} {l} {v} {nv} same {t = t} {out} i count d room h e row x is u q =
+from-more m {s₀} {s} {p} {l} {v} {nv} same {t = t} {out} i count d room h e made few x is u q =
     made-again d _ u (q ∙ ap (put t out) (tab-ext _ _ p (λ j k. fold-turn _ _ _ count _ _ (written d room j k) (term j k)))) where
+      row : part e 0 p ≡ tab (λ j. design m s p l (i + count) j) p
+      row = rw made (part-put-same (fillOf plus0 64) 0 _ p (length-tab _ p) (omega (arith, length-fill plus0 64)))
+
       element : s ! (v + (i + count)) ≡ s₀ ! (v + (i + count))
       element = sym (getD-part s v nv (i + count) nan h) ∙ ap (λ (xs : List Float). xs ! (i + count)) (same .vector) ∙ getD-part s₀ v nv (i + count) nan h
 

@@ -191,11 +191,11 @@ fn add_rest(
     }
 }
 
-// Row i of the design.
+// Row i of the design, and +0 behind it.
 fn entries(m: &[f64], i: usize, p: usize, s: &[f64], l: Places) -> [f64; 64]
     requires { ⌜ RowRead (now m) i p (now s) l ⌝ }
-    ensures { λ r. ⌜ part r 0 p ≡ tab (λ j. lazyAt p (now (m .entry)) (part (now (s .entry)) (l .centre) p) (part (now (s .entry)) (l .scale) p)
-        (part (now (s .entry)) (l .recip) p) i j) p ⌝ }
+    ensures { λ r. ⌜ r ≡ put (fillOf plus0 64) 0 (tab (λ j. lazyAt p (now (m .entry)) (part (now (s .entry)) (l .centre) p) (part (now (s .entry)) (l .scale) p)
+        (part (now (s .entry)) (l .recip) p) i j) p) ⌝ }
 {
     let ce = l.centre;
     let sc = l.scale;

@@ -29,12 +29,12 @@ returns c =
     let there = c .before in
     let g = there .before .before .before .before .args in
     let missing = sym (there .all-there .ensures) ∙ denied _ (c .if1 .taken) in
-    (rw missing, sums-none (g .m .now) (g .s .now) (g .p) (g .l) (g .s .now) (g .out) (g .v) (g .n + g .p) (omega arith) .is)
+    (rw missing, sums-none (g .s .now) (g .out) (g .p) _ _ (omega arith) .is)
 
 loop-holds : tie.Need-loop-holds Inv-loop μ-loop
 loop-holds c =
     let g = c .before .before .before .before .before .args in
-    (omega arith, sums-none (g .m .now) (g .s .now) (g .p) (g .l) (g .s .now) (g .out) (g .v) (g .n + g .p) (omega arith))
+    (omega arith, sums-none (g .s .now) (g .out) (g .p) _ _ (omega arith))
 
 mul-four-at : tie.Need-mul-four-at Inv-loop μ-loop
 mul-four-at c = omega arith

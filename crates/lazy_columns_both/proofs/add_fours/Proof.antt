@@ -20,8 +20,8 @@ loop-holds : tie.Need-loop-holds Inv-loop μ-loop
 loop-holds c =
     let g = c .before .before .before .args in (
       omega arith,
-      sums-none (g .m .now) (g .s .now) (g .p) (g .l) (g .s .now) (g .out) (g .v) (g .n + g .p) (omega arith),
-      sums-none (g .m .now) (g .s .now) (g .p) (g .l) (g .y .now) 0 (g .w) (g .n + g .p) (omega arith),
+      sums-none (g .s .now) (g .out) (g .p) _ _ (omega arith),
+      sums-none (g .y .now) 0 (g .p) _ _ (omega arith),
     )
 
 mul-four-at : tie.Need-mul-four-at Inv-loop μ-loop

@@ -6,8 +6,9 @@ use Rattle.arrays.specs.Sums.{_!_}
 use Rattle.arrays.proofs.Turns.{Made, made-all}
 use Rattle.matrices.proofs.Lengths.{row-room}
 use Rattle.lazy_normalization.proofs.Entries.{while-made}
+use Rattle.lazy_columns.proofs.ColumnSums.{sums-none}
 use Rattle.lazy_columns_both.specs.Both.{addedFrom}
-use Rattle.lazy_columns_both.proofs.Both.{fromRow, from-none, from-more}
+use Rattle.lazy_columns_both.proofs.Both.{fromRow, from-more}
 use Rattle.lazy_columns_both.proofs.add_rest.Statement.{statement}
 use Rattle.lazy_columns_both.proofs.add_rest.Tie as tie
 
@@ -27,8 +28,8 @@ loop-holds c =
     let none : from - from ≡ 0 = omega arith in (
       omega arith,
       omega arith,
-      rw none (from-none (g .m .now) (g .s .now) (g .p) (g .l) (g .s .now) (g .out) (g .v) from (omega arith)),
-      rw none (from-none (g .m .now) (g .s .now) (g .p) (g .l) (g .y .now) 0 (g .w) from (omega arith)),
+      rw none (sums-none (g .s .now) (g .out) (g .p) _ _ (omega arith)),
+      rw none (sums-none (g .y .now) 0 (g .p) _ _ (omega arith)),
     )
 
 add-x : tie.Need-add-x Inv-loop μ-loop
@@ -90,10 +91,10 @@ loop-again c =
       omega arith,
       omega arith,
       rw next
-          (from-more (g .m .now) (while-made (start .pre .first) (omega arith) (d .2)) from (i - from) (d .2) (omega arith) (omega arith) _ (rw k (row .entries .ensures)) _
+          (from-more (g .m .now) (while-made (start .pre .first) (omega arith) (d .2)) from (i - from) (d .2) (omega arith) (omega arith) _ (rw k (row .entries .ensures)) (start .pre .first .columns) _
           (ap (λ (a : ℕ). at .loop .s ! (g .v + a)) (sym k)) _ (own .add-scaled-from .ensures)),
       rw next
-          (from-more (g .m .now) (while-made (start .pre .second) (omega arith) (d .2)) from (i - from) (d .3) (omega arith) (omega arith) _ (rw k (row .entries .ensures)) _
+          (from-more (g .m .now) (while-made (start .pre .second) (omega arith) (d .2)) from (i - from) (d .3) (omega arith) (omega arith) _ (rw k (row .entries .ensures)) (start .pre .first .columns) _
           (ap (λ (a : ℕ). at .loop .s ! (g .w + a)) (sym k)) _ (other .add-scaled-from2 .ensures)),
     )
 

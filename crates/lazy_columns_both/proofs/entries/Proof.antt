@@ -1,7 +1,9 @@
 -- `lazy_columns_both::entries` meets its contract. The invariant: the first j entries are written. The measure: p - j. Assumes nothing.
 use Prim.Native.Nat.{_-_}
 use native.Mathlib.Omega.{arith}
-use Rattle.arrays.proofs.Part.{getD-part, length-tab, part-put-same}
+use Rattle.arrays.specs.Part.{tab}
+use Rattle.arrays.proofs.Part.{getD-part}
+use Rattle.arrays.specs.Vectors.{fillOf}
 use Rattle.arrays.proofs.Turns.{Made, made-none, array-more, made-all}
 use Rattle.lazy_normalization.proofs.Entries.{rowOf}
 use lib.Ieee.{nan}
@@ -83,9 +85,8 @@ loop-again c =
     array-more (at .loop .inv) _ h (rw (c .normalise .ensures, ec, es, eb))
 
 returns : tie.Need-returns Inv-loop μ-loop
-returns c =
-    let at = c .before in
-    rw (made-all (at .loop .inv) (omega arith)) (part-put-same _ 0 _ (at .before .before .before .args .p) (length-tab _ _) (omega arith))
+unfolding fillOf tab
+returns c = made-all (c .before .loop .inv) (omega arith)
 
 pub entries-spec : {M : Type 1} → statement M
 entries-spec =
