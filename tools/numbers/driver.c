@@ -1,6 +1,7 @@
-// driver COUNT: standard input has, each 8 bytes, COUNT arguments of a root, COUNT arguments of a logarithm and the COUNT answers of the latter, then the
-// COUNT left and the COUNT right arguments of a maximum and a minimum. Our root is held to the platform's sqrt, our logarithm to those answers, our maximum and
-// minimum to 01's rule in C's comparisons, bit for bit, with every NaN as one; a NaN of ours must be 7ff8000000000000.
+// driver COUNT WHOLE: standard input has, each 8 bytes, COUNT arguments of a root, COUNT arguments of a logarithm and the COUNT answers of the latter, the
+// COUNT left and the COUNT right arguments of a maximum and a minimum, then WHOLE arguments of a root and the WHOLE answers. Our root is held to the platform's
+// sqrt and to those answers, our logarithm to its answers, our maximum and minimum to 01's rule in C's comparisons, bit for bit, with every NaN as one; a NaN of
+// ours must be 7ff8000000000000.
 #include <inttypes.h>
 #include <math.h>
 #include <stdio.h>
@@ -54,16 +55,20 @@ static double smaller(double x, double y) {
 }
 
 int main(int argc, char **argv) {
-    long count = argc == 2 ? atol(argv[1]) : 0;
-    if (count <= 0) {
-        fprintf(stderr, "usage: driver COUNT\n");
+    long count = argc == 3 ? atol(argv[1]) : 0, whole = argc == 3 ? atol(argv[2]) : 0;
+    if (count <= 0 || whole <= 0) {
+        fprintf(stderr, "usage: driver COUNT WHOLE\n");
         return 2;
     }
     uint64_t *roots = words(count), *logarithms = words(count), *answers = words(count), *left = words(count), *right = words(count);
-    long roots_differ = 0, logarithms_differ = 0, maxima_differ = 0, minima_differ = 0;
+    uint64_t *whole_roots = words(whole), *whole_answers = words(whole);
+    long roots_differ = 0, whole_differ = 0, logarithms_differ = 0, maxima_differ = 0, minima_differ = 0;
     for (long i = 0; i < count; i++) {
         double x = of_bits(roots[i]);
         roots_differ += differ("root", roots_differ, roots + i, NULL, root(x), sqrt(x));
+    }
+    for (long i = 0; i < whole; i++) {
+        whole_differ += differ("root by whole numbers", whole_differ, whole_roots + i, NULL, root(of_bits(whole_roots[i])), of_bits(whole_answers[i]));
     }
     for (long i = 0; i < count; i++) {
         logarithms_differ += differ("ln", logarithms_differ, logarithms + i, NULL, ln(of_bits(logarithms[i])), of_bits(answers[i]));
@@ -73,7 +78,8 @@ int main(int argc, char **argv) {
         maxima_differ += differ("maximum", maxima_differ, left + i, right + i, maximum(x, y), larger(x, y));
         minima_differ += differ("minimum", minima_differ, left + i, right + i, minimum(x, y), smaller(x, y));
     }
-    printf("%ld roots: %ld differ; %ld logarithms: %ld differ; ", count, roots_differ, count, logarithms_differ);
+    printf("%ld roots: %ld differ; %ld roots by whole numbers: %ld differ; ", count, roots_differ, whole, whole_differ);
+    printf("%ld logarithms: %ld differ; ", count, logarithms_differ);
     printf("%ld maxima: %ld differ; %ld minima: %ld differ; NaN patterns: %ld other of %ld\n", count, maxima_differ, count, minima_differ, other, nans);
-    return roots_differ || logarithms_differ || maxima_differ || minima_differ || other;
+    return roots_differ || whole_differ || logarithms_differ || maxima_differ || minima_differ || other;
 }

@@ -8,11 +8,13 @@ use native.Mathlib.Omega.{arith}
 use lib.Dec.{lit≤}
 use borrow.Author.Tests.{lt-ltb, le-ltb}
 use Rattle.numbers.specs.Units.{count, IsNormal}
+use Rattle.numbers.specs.declared.square_root.Digits.{Digits}
 use Rattle.numbers.specs.Nearest.{Nearest, Half, RootBits}
+use Rattle.numbers.specs.Digits.{nextBit}
 use Rattle.numbers.specs.Root.{reaches, last, rootBits}
 use Rattle.numbers.proofs.Counts.{count-le}
 use Rattle.numbers.proofs.Normals.{low-normal, high-normal}
-use Rattle.numbers.proofs.Recurrence.{Digits, start, one, none, stay, up}
+use Rattle.numbers.proofs.Recurrence.{Worked, start, step, nearest-of}
 use Rattle.numbers.proofs.Halves.{half-even, half-odd, root-of-normal}
 
 -- ---- the bisection ends at any pattern that is the root
@@ -47,20 +49,13 @@ module _ (bits r : ℕ) (R : RootBits bits r) where
   unfolding rootBits
   root-bits-is = last-is 63 0 (omega arith) (lt-of-lt-of-le (R .finite) (lit≤ tt))
 
--- ---- and there is one: the recurrence finds it
-run : (k i m r rem w : ℕ) → i + k ≡ 53 → 2 ^ 52 ≤ m → m < 2 ^ 54 - 1 → Digits m r rem w i → (n : ℕ) × Nearest m n
-run zero i m r rem w e lo hi d = elim (decLe rem r) [
-  | yes h ↦ (r, stay m r rem w i d (omega arith) lo h)
-  | no h ↦ (r + 1, up m r rem w i d (omega arith) lo hi (lt-of-not-le h))
-]
-run (suc k) i m r rem w e lo hi d = elim (decLe (rem * 4 + w / 2 ^ 52) (r * 4)) [
-  | yes h ↦ run k (i + 1) m (r * 2) (rem * 4 + w / 2 ^ 52) (w % 2 ^ 52 * 4) (omega arith) lo hi (none m r rem w i d (omega arith) h)
-  | no h ↦
-      run k (i + 1) m (r * 2 + 1) (rem * 4 + w / 2 ^ 52 - r * 4 - 1) (w % 2 ^ 52 * 4) (omega arith) lo hi (one m r rem w i d (omega arith) (lt-of-not-le h))
-]
+-- ---- and there is one: bit by bit it is found
+run : (k i m : ℕ) (w : Digits) → i + k ≡ 54 → 2 ^ 52 ≤ m → m < 2 ^ 54 - 1 → Worked m w i → (n : ℕ) × Nearest m n
+run zero i m w e lo hi d = let all : i ≡ 54 = omega arith in ((w .root + 1) / 2, nearest-of m w (subst (Worked m w) all d) lo hi)
+run (suc k) i m w e lo hi d = run k (i + 1) m (nextBit w) (omega arith) lo hi (step m w i d (omega arith))
 
 nearest : (m : ℕ) → 2 ^ 52 ≤ m → m < 2 ^ 54 - 1 → (n : ℕ) × Nearest m n
-nearest m lo hi = run 53 0 m 0 0 m refl lo hi (start m (omega arith))
+nearest m lo hi = run 54 0 m (record { root = 0; remainder = 0; ahead = m }) refl lo hi (start m (omega arith))
 
 half : (b m : ℕ) → 972 ≤ b → b ≤ 3069 → 2 ^ 52 ≤ m → m < 2 ^ 53 → (r : ℕ) × Half b m r
 half b m l u lo hi = elim (ℕ-discrete (b % 2) 0) [

@@ -5,4 +5,5 @@ pub mod Order
 pub mod Powers
 pub mod Units
 pub mod Nearest
+pub mod Digits
 pub mod Root
