@@ -62,8 +62,10 @@ fn half(b: u64, digits: u64) -> u64
     // Where r has 53 bits, the pattern e * 2^52 + r stands for r * 2^(e - 1074). With r the root of m * 2^52 the square of that is m * 2^52 * 2^(2e - 2148),
     // which is m * 2^(2e + 2 - 2098): so 2e + 2 is b, or b - 1 with m twice the digits. A power of 1 to 2098 makes b 972 to 3069.
     let e = b / 2 - 1;
-    let m = if b % 2 == 0 { digits } else { digits * 2 };
-    e * TWO_52 + nearest_root(m)
+    if b % 2 == 1 {
+        return e * TWO_52 + nearest_root(digits * 2);
+    }
+    e * TWO_52 + nearest_root(digits)
 }
 
 // A root on its way. As in long division it is worked from the top, here bit by bit, and for each bit the argument's next pair of bits is brought down.
