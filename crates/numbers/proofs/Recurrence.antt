@@ -78,7 +78,7 @@ pub is-zero : (w : Digits) → broughtDown w < trialOf w → bitZero w ≡ nextB
 unfolding nextBit
 is-zero w h = rw (lt-leb (trialOf w) (broughtDown w) h)
 
--- with either bit root² + remainder is the number of one more pair
+-- with either bit root² + remainder is what the pairs make, now one pair more
 pub step : (m : ℕ) (w : Digits) (i : ℕ) → Worked m w i → i < 54 → Worked m (nextBit w) (i + 1)
 step m w i d l = elim (decLe (trialOf w) (broughtDown w)) [
   | yes h ↦

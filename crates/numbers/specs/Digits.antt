@@ -1,4 +1,4 @@
--- One bit of a root as the code works it, with its trial and its remainder: what `rootOf` is does not stand on it. Definitions only.
+-- One bit of a root as the code works it, with its trial and its remainder; `rootOf` is not defined by it. Definitions only.
 use mathlib.Core.Bool.{cond}
 use Prim.Native.Nat.{ℕ, _+_, _-_, _*_, _/_, _%_, _^_, _≤_, _<_}
 use lib.Dec.{leb}

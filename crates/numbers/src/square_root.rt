@@ -79,8 +79,9 @@ pub struct Digits {
 }
 
 // The next bit of the result: 1 where the trial can be taken off the remainder, else 0. The trial is what a 1 adds to the square:
-// (2 root + 1)^2 is (2 root)^2 + (4 root + 1). An example, the root of 2, which is 1.01101.. in binary. The argument's pairs are 10 00 00 00 00 00, and a pair
-// is brought down behind the remainder of the line above: 4 times that and the pair.
+// (2 root + 1)^2 is (2 root)^2 + (4 root + 1). An example, the root of 2, which is 1.01101.. in binary. The argument's pairs are 10 00 00 00 00 00. A pair is
+// brought down behind the remainder of the line above: 4 times that, plus the pair. The trial is 4 times the root of the line above, plus 1. The roots are
+// written in binary, all other numbers in decimal.
 //
 //     brought down  trial  bit  root so far  remainder
 //                2      1    1            1          1
@@ -110,9 +111,9 @@ fn next_bit(w: Digits) -> Digits
     }
 }
 
-// The whole number nearest to the root of m * 2^52. It has 53 bits, and one more is worked, by which it is rounded: a 1 says that the root lies above the half.
-// On the half it never lies: with that bit the argument is m * 2^54, an even number, and the square of an odd number is odd. None is rounded up to 2^53, since
-// m has 53 bits or is twice such a number, so that it is at most 2^54 - 2.
+// The whole number nearest to the root of m * 2^52. It has 53 bits, and one more is worked, by which it is rounded: a 1 says that the root lies above the point
+// half way between two whole numbers. It never lies on it: with that bit the argument is m * 2^54, an even number, and the square of an odd number is odd.
+// None is rounded up to 2^53, since m has 53 bits or is twice such a number, so that it is at most 2^54 - 2.
 fn nearest_root(m: u64) -> u64
     requires { ⌜ 2 ^ 52 ≤ m ⌝ }
     requires { ⌜ m < 2 ^ 54 - 1 ⌝ }

@@ -1,4 +1,4 @@
--- `square_root::nearest_root` meets its contract. The invariant: w has been worked out to as many bits of m's root as the loop has turned.
+-- `square_root::nearest_root` meets its contract. The invariant: w holds as many bits of the root of m * 2 ^ 54 as rounds were made.
 -- The measure: 54 - bit. The arithmetic is in Recurrence. Assumes nothing.
 use mathlib.Core.Path.{_≡_, sym, subst}
 use Prim.Native.Nat.{_+_, _-_}
