@@ -46,9 +46,7 @@ fn root_bits(bits: u64) -> u64
     ensures { λ r. ⌜ RootBits bits r ⌝ }
 {
     let n = normalised(bits);
-    let power = n.power;
-    let digits = n.digits;
-    half(power + BIAS, digits)
+    half(n.power + BIAS, n.digits)
 }
 
 // The pattern of the root of digits * 2^(b - 2098): half the power of two, and of an odd one the digits take a factor of two.
@@ -69,13 +67,13 @@ fn half(b: u64, digits: u64) -> u64
 }
 
 // A root on its way. As in long division it is worked from the top, here bit by bit, and for each bit the argument's next pair of bits is brought down.
-pub struct Digits {
+struct Digits {
     // the bits of the result so far
-    pub root: u64,
+    root: u64,
     // what is left of the pairs so far, with root * root taken off
-    pub remainder: u64,
+    remainder: u64,
     // the bits of the argument that are still to come, the next pair at 2^53 and 2^52
-    pub ahead: u64,
+    ahead: u64,
 }
 
 // The next bit of the result: 1 where the trial can be taken off the remainder, else 0. The trial is what a 1 adds to the square:
