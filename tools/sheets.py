@@ -10,6 +10,7 @@ from collections import namedtuple
 VERSION = 1
 HEADER = struct.Struct(">HHdddIB")
 NORMALISE, LAZY = 1, 2
+CANCELLED = 0  # as the target of a row, which then has no score and no place in the matrix
 FIT_ROWS, FIT_FEATURES = 4096, 64
 PROGRAM_ROWS, PROGRAM_FEATURES, PROGRAM_BYTES = 256, 16, 35878
 SHOWN_FAULTS = 20
@@ -24,11 +25,11 @@ RANGES = {
 
 # What each refusal means. {k} is the place; {name} is a feature's name in brackets, where it is known.
 MEANINGS = {
-    1: f"rows or features outside what a fit takes: 1 to {FIT_ROWS:,} rows, 1 to {FIT_FEATURES} features",
+    1: f"rows or features outside what a fit takes: 1 to {FIT_ROWS:,} rows that are not cancelled, 1 to {FIT_FEATURES} features",
     2: "a slice has the wrong length for the rows and features",
     3: "a setting is outside its range: " + ", ".join(f"{name} {words}" for name, (_, _, words) in RANGES.items()),
     4: "the scratch memory is too short",
-    5: "value {k} is not finite; values count from 0, through the features row by row, then through the scores",
+    5: "value {k} is not finite; values count from 0, through the features row by row, then through the scores, cancelled rows left out",
     6: "feature {k}{name} is constant; a normalised fit needs features that vary",
     7: "the search made 100 trials and accepted none",
     8: "the solver's tolerance came out at or below 0",
@@ -37,9 +38,9 @@ MEANINGS = {
     11: "the sheet's version is not 1",
     12: "the sheet's length is wrong; the file is cut, too long or no sheet",
     13: "the sheet's flags are above 3",
-    14: "row {k} (from 0) has a claim number outside 1 to 999",
-    15: "row {k} (from 0) has a pair that does not come after the pair of the row before",
-    16: f"too large for claimfit: it takes {PROGRAM_ROWS} rows, {PROGRAM_FEATURES} features and {PROGRAM_BYTES:,} bytes",
+    14: "row {k} (from 0, cancelled rows counted) has a source outside 1 to 999, a target outside 0 to 999, or target 0 (cancelled) with a score",
+    15: "row {k} (from 0, cancelled rows counted) has a pair that does not come after the pair of the row before",
+    16: f"too large for claimfit: it takes {PROGRAM_ROWS} rows (cancelled ones count), {PROGRAM_FEATURES} features and {PROGRAM_BYTES:,} bytes",
 }
 
 Settings = namedtuple("Settings", "alpha l1_ratio tol rounds flags")
@@ -64,24 +65,65 @@ def counted(count, thing):
     return f"{count:,} {thing}" + ("" if count == 1 else "s")
 
 
+# Cancelled rows.
+
+def remaining(rows):
+    """(row in the sheet, row) of each that is not cancelled, in the order of the matrix."""
+    return [(i, row) for i, row in enumerate(rows) if row.target != CANCELLED]
+
+
+def counted_rows(rows):
+    cancelled = len(rows) - len(remaining(rows))
+    return counted(len(rows), "row") + (f" ({cancelled:,} cancelled)" if cancelled else "")
+
+
+def all_bits_zero(value):
+    """So not -0, which equals 0."""
+    return struct.pack(">d", value) == bytes(8)
+
+
 # Numbers from texts. A ValueError says in words what is wrong.
 
-def decimal(text):
+def any_number(text):
     """float() also takes 1_000 and the digits of other scripts. In a table these are slips, so they are shut out."""
     try:
-        value = float(text if text.isascii() and "_" not in text else "")
+        return float(text if text.isascii() and "_" not in text else "")
     except ValueError:
         raise ValueError(f"{quoted(text)} is not a decimal number such as 0.5 or 1e-4") from None
+
+
+def decimal(text):
+    value = any_number(text)
     if not math.isfinite(value):
         raise ValueError(f"{quoted(text)} is not a finite 64-bit number")
     return value
 
 
-def claim(text):
+def claim(text, also=""):
     """Digits are counted first, since int() refuses very long texts in words of its own."""
     if not re.fullmatch("[0-9]+", text) or not 1 <= len(text.lstrip("0")) <= 3:
-        raise ValueError(f"{quoted(text)} is not a claim number, a whole number from 1 to 999")
+        raise ValueError(f"{quoted(text)} is not a claim number, a whole number from 1 to 999{also}")
     return int(text.lstrip("0"))
+
+
+def target_claim(text):
+    return CANCELLED if re.fullmatch("0+", text) else claim(text, ", or 0 for a cancelled claim")
+
+
+def ignored_feature(text):
+    """Of a cancelled row. A number that stands there is written as it is, finite or not, though no fit reads it."""
+    return any_number(text or "0")
+
+
+def no_score(text):
+    """Of a cancelled row. A text that is no number is told the same as one that is not 0, since another number would not do."""
+    try:
+        value = any_number(text or "0")
+    except ValueError:
+        value = math.nan
+    if not all_bits_zero(value):
+        raise ValueError(f"a cancelled claim (target 0) has no score; leave the field empty or write 0, not {quoted(text)}")
+    return value
 
 
 # Comma files.
@@ -149,8 +191,9 @@ def row_of(where, line, count, before):
     if len(found) != count:
         column = found[count][0] if len(found) > count else len(line) + 1
         raise fault(where, column, f"{counted(len(found), 'field')}, but the header has {count}")
-    pair = (taken(where, found[0], claim), taken(where, found[1], claim))
-    numbers = [taken(where, field, decimal) for field in found[2:]]
+    pair = (taken(where, found[0], claim), taken(where, found[1], target_claim))
+    feature, score = (ignored_feature, no_score) if pair[1] == CANCELLED else (decimal, decimal)
+    numbers = [taken(where, field, feature) for field in found[2:-1]] + [taken(where, found[-1], score)]
     if pair == before:
         raise fault(where, found[1][0], f"pair {pair[0]},{pair[1]} stands twice")
     if pair < before:
@@ -230,44 +273,54 @@ def frame_refusals(data):
 
 
 def pair_refusals(rows):
+    """Cancelled rows count, and their pairs rise with the others."""
     before = (0, 0)
     for i, row in enumerate(rows):
         pair = (row.source, row.target)
-        for side, number in zip(("source", "target"), pair):
-            if not 1 <= number <= 999:
-                yield Refusal(14, i, f"in row {i} (from 0) the {side} claim is {number}; claim numbers run from 1 to 999")
+        if not 1 <= row.source <= 999:
+            yield Refusal(14, i, f"in row {i} (from 0) the source claim is {row.source}; claim numbers run from 1 to 999")
+        if not (1 <= row.target <= 999 or row.target == CANCELLED):
+            yield Refusal(14, i, f"in row {i} (from 0) the target claim is {row.target}; claim numbers run from 1 to 999, and 0 means cancelled")
+        if row.target == CANCELLED and not all_bits_zero(row.score):
+            yield Refusal(14, i, f"row {i} (from 0) is cancelled (target 0), but has the score {row.score}; all bits of it must be 0")
         if pair <= before:
             yield Refusal(15, i, f"the pair {pair[0]},{pair[1]} of row {i} (from 0) does not come after {before[0]},{before[1]} of the row before")
         before = pair
 
 
 def reader_refusals(data, program):
-    """Those of the reader; a program's reader has 16 too, which depends on the program's memory."""
+    """Those of the reader; a program's reader has 16 too, which depends on the program's memory. 16 counts all rows, 1 those that remain."""
     if program and len(data) > PROGRAM_BYTES:
         yield Refusal(16, 0, f"the sheet has {len(data):,} bytes; claimfit takes at most {PROGRAM_BYTES:,}")
     yield from frame_refusals(data)
     n, p, _, rows = parsed(data)
-    size = f"the sheet has {counted(n, 'row')} and {counted(p, 'feature')}"
+    size = f"the sheet has {counted_rows(rows)} and {counted(p, 'feature')}"
     if program and (n > PROGRAM_ROWS or p > PROGRAM_FEATURES):
-        yield Refusal(16, 0, f"{size}; claimfit takes at most {PROGRAM_ROWS} rows and {PROGRAM_FEATURES} features")
+        yield Refusal(16, 0, f"{size}; claimfit takes at most {PROGRAM_ROWS} rows (cancelled ones count) and {PROGRAM_FEATURES} features")
     yield from pair_refusals(rows)
-    if not (1 <= n <= FIT_ROWS and 1 <= p <= FIT_FEATURES):
-        yield Refusal(1, 0, f"{size}; a fit takes 1 to {FIT_ROWS:,} rows and 1 to {FIT_FEATURES} features")
+    if not (1 <= len(remaining(rows)) <= FIT_ROWS and 1 <= p <= FIT_FEATURES):
+        yield Refusal(1, 0, f"{size}; a fit takes 1 to {FIT_ROWS:,} rows that are not cancelled and 1 to {FIT_FEATURES} features")
 
 
 def fit_refusals(data):
     """Those of a fit's start that can be told without arithmetic; 6, a constant column, is left to the fit."""
     _, p, settings, rows = parsed(data)
+    left = remaining(rows)
+
+    def at(place):
+        row = left[place][0]
+        return f"row {row}" + (f" (place {place} in the matrix)" if row != place else "")
+
     for name, (low, high, words) in RANGES.items():
         value = getattr(settings, name)
         if not low <= value <= high:
             yield Refusal(3, 0, f"{name} is {value}; it must be {words}")
-    for i, value in enumerate(value for row in rows for value in row.features):
+    for i, value in enumerate(value for _, row in left for value in row.features):
         if not math.isfinite(value):
-            yield Refusal(5, i, f"feature {i % p} of row {i // p} is {value}")
-    for i, row in enumerate(rows):
+            yield Refusal(5, i, f"feature {i % p} of {at(i // p)} is {value}")
+    for i, (_, row) in enumerate(left):
         if not math.isfinite(row.score):
-            yield Refusal(5, len(rows) * p + i, f"the score of row {i} is {row.score}")
+            yield Refusal(5, len(left) * p + i, f"the score of {at(i)} is {row.score}")
 
 
 def first(refusals):

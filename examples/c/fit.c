@@ -114,11 +114,11 @@ int main(int count, char **words)
     size_t length;
     uint8_t *bytes = read_file(words[1], &length);
 
-    /* The header first, for n and p; then there is room for the rest. */
+    /* First n, the rows that remain without the cancelled ones, and p; then there is room for the rest. */
     uint64_t header[XANGORAVIT_HEADER] = {0}, place = 0;
-    uint64_t number = xangoravit_read_header(bytes, length, PANEL_ROWS, PANEL_COLS, header, XANGORAVIT_HEADER);
+    uint64_t number = xangoravit_count_rows(bytes, length, PANEL_ROWS, PANEL_COLS, header, XANGORAVIT_HEADER, &place, 1);
     if (number)
-        refused("header", number, place);
+        refused("count", number, place);
     size_t n = header[XANGORAVIT_N], p = header[XANGORAVIT_P];
     double *x = room(n * p, sizeof *x), *y = room(n, sizeof *y);
     number = xangoravit_read_sheet(bytes, length, PANEL_ROWS, PANEL_COLS, x, n * p, y, n, header, XANGORAVIT_HEADER, &place, 1);

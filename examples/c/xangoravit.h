@@ -5,11 +5,15 @@
    contents may be anything. Matrices are stored row by row.
 
    Every call but xangoravit_scratch_words returns 0, or the number of its refusal. n not from 1 to 4,096 (of
-   xangoravit_solve to 64) or p not from 1 to 64 is refused with 1 (but by xangoravit_read_header, which asks only for
-   bytes); then a slice of the wrong length with 2, whether of doubles or of words, the scratch excepted: one that is too
-   short is 4, and a longer one will do. What is wrong with a sheet's bytes, 11 to 15, comes before 1 and 2. An answer that
-   has its 7 words is written with every refusal. Nothing else is, but a sheet's place, and what a fit writes that 7 or 8
-   ends.
+   xangoravit_solve to 64) or p not from 1 to 64 is refused with 1 (but by xangoravit_read_header and
+   xangoravit_count_rows, which ask only for bytes); then a slice of the wrong length with 2, whether of doubles or of
+   words, the scratch excepted: one that is too short is 4, and a longer one will do. What is wrong with a sheet's bytes,
+   11 to 15, comes before 1 and 2. An answer that has its 7 words is written with every refusal. Nothing else is, but a
+   sheet's place, and what a fit writes that 7 or 8 ends.
+
+   A sheet's row with target claim 0 is cancelled: the bits of its score are 0 (else 14), its features may be anything, and
+   it is no row of the matrix. The place of 14 and 15 is a row of the sheet, cancelled ones counted. Every n but that of
+   xangoravit_read_header counts the rows that remain, and so do the places of 5.
 
    A word that holds a double holds its bits (copy them with memcpy). */
 #ifndef XANGORAVIT_H
@@ -63,13 +67,22 @@ enum {
     XANGORAVIT_REFUSED
 };
 
-/* Reads a sheet's header alone: n and p say how much memory the sheet wants. Writes the header unless it refuses. R and C
-   become the panels of its settings. Refusals 11 to 13, then 2 for the header's words; they have no place. */
+/* Reads a sheet's header alone. n is what stands in it, cancelled rows counted: the memory that the sheet wants may be
+   less, which xangoravit_count_rows says. Writes the header unless it refuses. R and C become the panels of its settings.
+   Refusals 11 to 13, then 2 for the header's words; they have no place. */
 uint64_t xangoravit_read_header(const uint8_t *bytes, size_t bytes_length, size_t rows, size_t cols,
                                 uint64_t *header, size_t header_length);
 
-/* Reads a whole sheet into x, of n * p doubles, and y, of n. Always writes the place's word, if there is one word: the
-   refusal's, or 0; the others only where it does not refuse. Refusals 11 to 15, then 1 and 2. */
+/* Reads the header and counts the rows that remain. That count, which may be 0, is its n: n and p say how much memory the
+   sheet wants. The header's other words are those of xangoravit_read_header. Always writes the place's word, if there is
+   one word: the refusal's, or 0; the header only where it does not refuse. Refusals 11 to 15, then 2 for the words of
+   header and place. */
+uint64_t xangoravit_count_rows(const uint8_t *bytes, size_t bytes_length, size_t rows, size_t cols,
+                               uint64_t *header, size_t header_length, uint64_t *place, size_t place_length);
+
+/* Reads a whole sheet into x, of n * p doubles, and y, of n, for the n rows that remain; the header's n is the same.
+   Always writes the place's word, if there is one word: the refusal's, or 0; the others only where it does not refuse.
+   Refusals 11 to 15, then 1 and 2. */
 uint64_t xangoravit_read_sheet(const uint8_t *bytes, size_t bytes_length, size_t rows, size_t cols,
                                double *x, size_t x_length, double *y, size_t y_length,
                                uint64_t *header, size_t header_length, uint64_t *place, size_t place_length);

@@ -25,10 +25,10 @@ static void resize(struct paper *a, size_t to) {
 
 static void put_pair(uint8_t *row, u64 pair) { put(row, 1 + pair / CLAIMS, 2), put(row + 2, 1 + pair % CLAIMS, 2); }
 
-// Pairs rise by steps that leave room for all; with small steps many share their source.
+// Pairs rise by steps that leave room for all; with small steps many share their source, with middling ones some.
 static void write_rows(struct paper *a) {
-    u64 most = ALL_PAIRS / (a->n ? a->n : 1), pair = 0, odd = below(2);
-    if (most > 3 && below(2)) most = 3;
+    u64 most = ALL_PAIRS / (a->n ? a->n : 1), pair = 0, odd = below(2), less = below(2) ? 3 : 2 * CLAIMS;
+    if (most > less && below(2)) most = less;
     for (u64 i = 0; i < a->n; i++) {
         uint8_t *row = row_of(a, i);
         pair += (i > 0) + (i ? below(most) : below(2) * below(most));
@@ -49,12 +49,60 @@ static void write_sheet(struct paper *a, u64 n, u64 p) {
     write_rows(a);
 }
 
+// ---- cancelled rows
+
+// Other pairs, over as many sources as there can be: each row has one of its own, or each source has a row.
+static void spread(struct paper *a) {
+    u64 shift = below(CLAIMS), pair = 0;
+    for (u64 i = 0; i < a->n; i++) {
+        u64 first = (i * CLAIMS + shift) / a->n * CLAIMS;
+        pair = i && first <= pair ? pair + 1 : first;
+        put_pair(row_of(a, i), pair);
+    }
+}
+
+static int first_of_source(struct paper *a, u64 i) { return i == 0 || memcmp(row_of(a, i), row_of(a, i - 1), 2); }
+
+// So many rows at random, or as many as can be: those that are the first of their source, so that pairs still rise.
+static void cancel(struct paper *a, u64 count) {
+    u64 can_be = 0;
+    for (u64 i = 0; i < a->n; i++) can_be += first_of_source(a, i);
+    if (count > can_be) count = can_be;
+    a->cancelled = count;
+    for (u64 i = 0; count; i++) {
+        if (!first_of_source(a, i) || below(can_be--) >= count) continue;
+        uint8_t *row = row_of(a, i);
+        put(row + 2, 0, 2);
+        for (u64 j = 0; j < a->p; j++) put(row + 4 + 8 * j, any_float(), 8);
+        put(row + 4 + 8 * a->p, 0, 8);
+        count--;
+    }
+}
+
+// ---- sizes
+
+// Rows, columns and cancelled rows, which are at most one a source. What is left of more than 4,096 rows is up to these, and one too many.
+static void at_bounds(struct paper *a) {
+    static const u64 bounds[][3] = {{4096, 64}, {4096, 1}, {1, 64}, {4097, 1}, {1, 65}, {4096, 65}, {4097, 64}, {0, 0}, {0, 1}, {0, 65535}, {1, 0}, {65535, 0}, {1, 65535},
+                                    {5095, 64, 999}, {5095, 1, 999}, {4097, 64, 1}, {4097, 2, 1}, {5096, 1, 999}, {4098, 5, 1}, {4999, 3, 999}, {5095, 1, 998}, {4096, 7, 500},
+                                    {1000, 1, 999}, {999, 1, 999}, {1, 64, 1}, {1, 65, 1}, {2, 65, 1}, {2, 0, 1}, {1, 65535, 1}, {65535, 1, 999}, {65535, 0, 999}};
+    const u64 *sizes = bounds[below(sizeof bounds / sizeof *bounds)];
+    write_sheet(a, sizes[0], sizes[1]);
+    if (!sizes[2]) return;
+    spread(a);
+    cancel(a, sizes[2]);
+}
+
+// About a quarter of all sheets have cancelled rows, and some of them no others.
 static void whole(struct paper *a) {
-    static const u64 bounds[][2] = {{4096, 64}, {4096, 1}, {1, 64}, {4097, 1}, {1, 65}, {4096, 65}, {4097, 64}, {0, 0}, {0, 1}, {0, 65535}, {1, 0}, {65535, 0}, {1, 65535}};
-    if (below(60) == 0) {
-        const u64 *sizes = bounds[below(sizeof bounds / sizeof *bounds)];
-        write_sheet(a, sizes[0], sizes[1]);
-    } else write_sheet(a, below(20) ? between(1, 12) : below(300), below(20) ? between(1, 5) : below(70));
+    if (below(40) == 0) {
+        at_bounds(a);
+        return;
+    }
+    write_sheet(a, below(20) ? between(1, 12) : below(300), below(20) ? between(1, 5) : below(70));
+    if (!a->n || below(11) >= 3) return;
+    if (below(4) == 0) spread(a);
+    cancel(a, below(8) ? between(1, a->n) : CLAIMS);
 }
 
 // ---- damage
@@ -111,6 +159,43 @@ static void other_claim(struct paper *a) {
     }
 }
 
+// Where no row is cancelled, one is, whatever its pair becomes.
+static u64 some_cancelled(struct paper *a) {
+    u64 i = below(a->n);
+    for (u64 left = a->n; left; left--, i = (i + 1) % a->n)
+        if (!row_of(a, i)[2] && !row_of(a, i)[3]) return i;
+    put(row_of(a, i) + 2, 0, 2), put(row_of(a, i) + 4 + 8 * a->p, 0, 8);
+    return i;
+}
+
+static void swap(uint8_t *a, uint8_t *b, u64 count) {
+    for (; count; count--, a++, b++) {
+        uint8_t kept = *a;
+        *a = *b, *b = kept;
+    }
+}
+
+// A cancelled row with a score, without a source, twice or at another place.
+static void other_cancelled(struct paper *a) {
+    if (!a->n) return;
+    uint8_t *other = row_of(a, below(a->n));
+    if (below(6) == 0) {
+        put(other + 2, 0, 2); // its score stays
+        return;
+    }
+    u64 i = some_cancelled(a), size = 12 + 8 * a->p;
+    uint8_t *row = row_of(a, i), *next = row_of(a, i + 1 < a->n ? i + 1 : i ? i - 1 : 0), *score = row + size - 8;
+    switch (below(7)) {
+    case 0: score[below(8)] ^= 1 << below(8); break;
+    case 1: put(score, NO_SIGN + 1, 8); break;
+    case 2: put(score, below(2) ? NAN_BITS : any_float(), 8); break;
+    case 3: put(row, below(2) ? 0 : between(999, 1001), 2); break;
+    case 4: memmove(next, row, size); break;
+    case 5: swap(row, next, size); break;
+    default: swap(row, other, size);
+    }
+}
+
 // No refusal of the reader's: any number is carried over.
 static void other_number(struct paper *a) {
     static const u64 odd[] = {0x7ff0000000000000, 0xfff0000000000000, 0x7ff8000000000000, 0xfff8000000000000, 0x7ff0000000000001, 0xffffffffffffffff, 0xfff4000000000000};
@@ -120,7 +205,7 @@ static void other_number(struct paper *a) {
 }
 
 static void damage(struct paper *a) {
-    switch (below(11)) {
+    switch (below(13)) {
     case 0: other_length(a); break;
     case 1: other_length_field(a); break;
     case 2: other_size(a); break;
@@ -131,6 +216,8 @@ static void damage(struct paper *a) {
     case 7:
         if (a->length) a->bytes[below(a->length)] ^= 1 << below(8);
         break;
+    case 8:
+    case 9: other_cancelled(a); break;
     default: other_claim(a);
     }
 }
@@ -163,6 +250,7 @@ static void wrapped(struct paper *a) {
 
 void draw(struct paper *a) {
     static const int faults[] = {0, 0, 1, 1, 1, 2, 3};
+    a->cancelled = 0;
     switch (below(32)) {
     case 0:
     case 1: random_bytes(a); break;

@@ -1,5 +1,5 @@
-// Written from document 01 alone, "Training sheet": the bytes in their order, the refusals in theirs; a wrong number of words is a 2 as with other slices. Writes
-// nothing but the place where it refuses.
+// Written from the documents alone, 01's "Training sheet" and 02's T-03: the bytes in their order, the refusals in theirs; a wrong number of words is a 2 as with
+// other slices. Writes nothing but the place where it refuses.
 #include "reader.h"
 
 enum { VERSION, LENGTH, ROWS = 5, COLUMNS = 7, ALPHA = 9, L1_RATIO = 17, TOL = 25, LIMIT = 33, FLAGS = 37, PAIRS = 38 };
@@ -35,32 +35,47 @@ u64 second_header(const uint8_t *bytes, size_t length, u64 rows, u64 columns, u6
 
 static int no_claim(u64 number) { return number < 1 || number > 999; }
 
-static u64 pairs(const uint8_t *bytes, u64 n, u64 p, u64 *place) {
+// A cancelled claim has target 0.
+static int cancelled(const uint8_t *row) { return big_endian(row + 2, 2) == 0; }
+
+// All rows are looked at, cancelled or not, and have a place; `remain` counts those that are not.
+static u64 pairs(const uint8_t *bytes, u64 n, u64 p, u64 *place, u64 *remain) {
     u64 source_before = 0, target_before = 0;
     for (u64 i = 0; i < n; i++) {
         const uint8_t *row = bytes + PAIRS + i * (12 + 8 * p);
-        u64 source = big_endian(row, 2), target = big_endian(row + 2, 2);
+        u64 source = big_endian(row, 2), target = big_endian(row + 2, 2), score = big_endian(row + 4 + 8 * p, 8);
         *place = i;
-        if (no_claim(source) || no_claim(target)) return 14;
+        if (no_claim(source) || (cancelled(row) ? score != 0 : no_claim(target))) return 14;
         if (source < source_before || (source == source_before && target <= target_before)) return 15;
         source_before = source, target_before = target;
+        *remain += !cancelled(row);
     }
     *place = 0;
     return 0;
 }
 
+u64 second_count(const uint8_t *bytes, size_t length, u64 rows, u64 columns, struct lengths lent, u64 *header, u64 *place) {
+    u64 read[HEADER] = {0}, row = 0, remain = 0, number = second_header(bytes, length, rows, columns, read, HEADER);
+    if (!number) number = pairs(bytes, read[0], read[1], &row, &remain);
+    if (!number && (lent.header != HEADER || lent.place != 1)) number = 2;
+    if (lent.place == 1) *place = row;
+    if (number) return number;
+    read[0] = remain;
+    for (int i = 0; i < HEADER; i++) header[i] = read[i];
+    return 0;
+}
+
+// What remains is counted first: it is the n of 1, of 2 and of the header.
 u64 second_sheet(const uint8_t *bytes, size_t length, u64 rows, u64 columns, struct lengths lent, u64 *x, u64 *y, u64 *header, u64 *place) {
-    u64 read[HEADER] = {0}, row = 0, number = second_header(bytes, length, rows, columns, read, HEADER), n = read[0], p = read[1];
-    if (!number) number = pairs(bytes, n, p, &row);
+    u64 read[HEADER] = {0}, row, number = second_count(bytes, length, rows, columns, (struct lengths){.header = HEADER, .place = 1}, read, &row), n = read[0], p = read[1];
     if (!number && (n < 1 || n > 4096 || p < 1 || p > 64)) number = 1;
     if (!number && (lent.x != n * p || lent.y != n || lent.header != HEADER || lent.place != 1)) number = 2;
     if (lent.place == 1) *place = row;
     if (number) return number;
-    const uint8_t *from = bytes + PAIRS;
-    for (u64 i = 0; i < n; i++, from += 8) {
-        from += 4;
-        for (u64 j = 0; j < p; j++, from += 8) *x++ = real(from);
-        *y++ = real(from);
+    for (const uint8_t *from = bytes + PAIRS; from < bytes + length; from += 12 + 8 * p) {
+        if (cancelled(from)) continue;
+        for (u64 j = 0; j < p; j++) *x++ = real(from + 4 + 8 * j);
+        *y++ = real(from + 4 + 8 * p);
     }
     for (int i = 0; i < HEADER; i++) header[i] = read[i];
     return 0;

@@ -12,6 +12,7 @@ struct lengths {
 };
 
 u64 second_header(const uint8_t *bytes, size_t length, u64 rows, u64 columns, u64 *header, size_t header_length);
+u64 second_count(const uint8_t *bytes, size_t length, u64 rows, u64 columns, struct lengths lent, u64 *header, u64 *place); // no matrix and targets are lent
 u64 second_sheet(const uint8_t *bytes, size_t length, u64 rows, u64 columns, struct lengths lent, u64 *x, u64 *y, u64 *header, u64 *place);
 
 #endif

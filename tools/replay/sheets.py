@@ -1,22 +1,31 @@
-"""Training sheets with the texts that they must give: the stored fits as sheets, with the stored answers; sheets at the edge of each refusal, also with
-two faults at once; document 01's sheet cut at every length. The latter are answered here, by 01's order."""
+"""Training sheets with the texts that they must give: the stored fits as sheets, with the stored answers; some of them once more with cancelled rows among
+their own, with the same answers; sheets at the edge of each refusal, also with two faults at once; document 01's sheet cut at every length. The last two kinds
+are answered here, by 01's order."""
 import itertools
 import math
 import struct
 import sys
 
+from generate import Random
 from words import number
 
 NORMALISE, LAZY = 1, 2
 LIMIT = 35878
 NAN, INF = math.nan, math.inf
+SEED, AGAIN = 3, 120  # of the cancelled rows that are mixed into stored fits; how many fits
+NOT_FINITE = (0x7ff8000000000000, 0xfff8000000000000, 0x7ff0000000000001, 0xffffffffffffffff, 0x7ff0000000000000, 0xfff0000000000000)
 
 
 # ---- sheets
 
+def packed(value):
+    """A whole number is bits: as a double, a NaN might not keep its pattern."""
+    return struct.pack(">Q" if isinstance(value, int) else ">d", value)
+
+
 def sheet(rows, p=1, version=1, n=None, length=None, alpha=1.0, ratio=1.0, tol=0.5, rounds=0, flags=0):
     """Rows are (source, target, features, score). A header that says something else than the rows is a fault on purpose."""
-    body = b"".join(struct.pack(f">HH{len(x) + 1}d", s, t, *x, y) for s, t, x, y in rows)
+    body = b"".join(struct.pack(">HH", s, t) + b"".join(map(packed, [*x, y])) for s, t, x, y in rows)
     head = struct.pack(">HHdddIB", len(rows) if n is None else n, p, alpha, ratio, tol, rounds, flags)
     size = len(head) + len(body) if length is None else length
     return struct.pack(">BI", version, size) + head + body
@@ -44,6 +53,16 @@ def column(rows, j, values):
     return [(s, t, x[:j] + [value] + x[j + 1:], y) for (s, t, x, y), value in zip(rows, values)]
 
 
+def gone(source, score=0.0, p=1):
+    """A cancelled row, its features NaN."""
+    return source, 0, [NAN] * p, score
+
+
+def struck(rows, i):
+    """The rows with row i cancelled."""
+    return rows[:i] + [gone(rows[i][0], p=len(rows[i][2]))] + rows[i + 1:]
+
+
 # ---- answers by 01's order
 
 def length_refused(data):
@@ -66,19 +85,20 @@ def frame_refusal(data):
     return (16, 0) if n > 256 or p > 16 else None
 
 
-def row_refusal(pairs):
+def row_refusal(rows):
+    """Of all rows, cancelled ones too, as (source, target, bits of the score)."""
     before = (0, 0)
-    for i, pair in enumerate(pairs):
-        if not all(1 <= claim <= 999 for claim in pair):
+    for i, (source, target, score) in enumerate(rows):
+        if not (1 <= source <= 999 and 0 <= target <= 999) or (target == 0 and score != 0):
             return 14, i
-        if pair <= before:
+        if (source, target) <= before:
             return 15, i
-        before = pair
+        before = (source, target)
     return None
 
 
 def start_refusal(settings, matrix, scores):
-    """1 to 6. The deviation's arithmetic is exact for the sheets below."""
+    """1 to 6, of the rows that remain. The deviation's arithmetic is exact for the sheets below."""
     alpha, ratio, tol, rounds, flags = settings
     n, p = len(scores), len(matrix[0]) if matrix else 0
     if n == 0 or p == 0:
@@ -110,13 +130,14 @@ def answered(data):
     if refusal:
         return refused_text(refusal)
     n, p, *settings = struct.unpack_from(">HHdddIB", data, 5)
-    rows = [struct.unpack_from(f">HH{p + 1}d", data, 38 + i * (12 + 8 * p)) for i in range(n)]
-    matrix, scores = [x[2:-1] for x in rows], [x[-1] for x in rows]
-    refusal = row_refusal([x[:2] for x in rows]) or start_refusal(settings, matrix, scores)
+    rows = [struct.unpack_from(f">HH{p}dQ", data, 38 + i * (12 + 8 * p)) for i in range(n)]
+    left = [x for x in rows if x[1] != 0]
+    matrix, scores = [x[2:-1] for x in left], [number(x[-1]) for x in left]
+    refusal = row_refusal([(*x[:2], x[-1]) for x in rows]) or start_refusal(settings, matrix, scores)
     if refusal:
         return refused_text(refusal)
     assert settings[3] == 0
-    mean, = struct.unpack(">Q", struct.pack(">d", sum(scores) / n))
+    mean, = struct.unpack(">Q", struct.pack(">d", sum(scores) / len(scores)))
     return fit_text("limit", (0, 0, 0), mean, [0] * p)
 
 
@@ -126,6 +147,9 @@ ROWS = [(1, 1, [1.0], 1.0), (3, 2, [2.0], 3.0)]
 P8 = sheet(ROWS)
 FOUR = grown(4, 3)
 MOST = grown(256, 16)
+# 02's sheet: P8's with a cancelled row between its two. Then four rows, with a cancelled one before the first and before the third.
+THREE = [ROWS[0], gone(2), ROWS[1]]
+HOLES = struck(struck([(1 + i, 5, x, y) for i, (_, _, x, y) in enumerate(grown(6, 3))], 0), 3)
 
 
 def frames():
@@ -223,6 +247,52 @@ def starts():
     yield sheet(column(MOST, 15, [0.5] * 256), p=16, flags=NORMALISE)
 
 
+def cancelled():
+    """A cancelled row's score, place and pair: 14, 15 and 1."""
+    yield sheet(THREE)
+    for score in (1.0, 1, 1 << 32, 1 << 63, NAN, INF):
+        yield sheet(row(THREE, 1, y=score))
+    yield sheet([gone(1), *ROWS])
+    yield sheet([*ROWS, gone(999)])
+    yield sheet([gone(1), ROWS[0], gone(2), gone(3), ROWS[1], gone(4)])
+    yield sheet([gone(1), ROWS[0], gone(5)])
+    yield sheet([gone(7)])
+    yield sheet([gone(1 + i, p=16) for i in range(256)], p=16)
+    for source in (0, 1000):
+        yield sheet([gone(source), *ROWS])
+    yield sheet([ROWS[0], gone(0), ROWS[1]])
+    five = [gone(5), (5, 4, [1.0], 1.0), (5, 5, [2.0], 3.0)]
+    yield sheet(five)
+    yield sheet([gone(5), *five])
+    yield sheet([*five, gone(5)])
+    yield sheet([*ROWS, gone(2)])
+    yield sheet([ROWS[0], gone(5), ROWS[1]])
+    yield sheet([gone(1), gone(2), (3, 1000, [1.0], 1.0)])
+    yield sheet([gone(1), gone(2), ROWS[1], ROWS[1]])
+
+
+def cancelled_beside():
+    """Cancelled rows beside other faults, and in what counts rows: 16 by all, 1, 5 and 6 by those that remain."""
+    yield sheet([*ROWS, gone(2, 1.0)])
+    yield sheet([ROWS[1], ROWS[0], gone(4, 1.0)])
+    yield sheet([ROWS[1], gone(4, 1.0), ROWS[0]])
+    yield sheet([gone(1), gone(2, 1.0)])
+    yield sheet([gone(1)], alpha=-1.0)
+    scored = row(THREE, 1, y=1.0)
+    yield sheet(scored, flags=4)
+    yield sheet(scored, n=2)
+    yield sheet(scored, alpha=NAN)
+    yield sheet(row(grown(257, 1), 0, target=0))
+    yield sheet(struck(grown(257, 1), 252))
+    yield sheet(struck(MOST, 99), p=16)
+    yield sheet([gone(1, p=0), *grown(2, 0)], p=0)
+    yield sheet(row(HOLES, 5, x=(2, INF)), p=3)
+    yield sheet(row(HOLES, 4, y=NAN), p=3)
+    yield sheet(column(HOLES, 1, [7.0, 2.0, 2.0, 8.0, 2.0, 2.0]), p=3, flags=NORMALISE)
+    yield sheet(column(HOLES, 2, [2.0, 0.5, 0.5, NAN, 0.5, 0.5]), p=3, flags=NORMALISE | LAZY)
+    yield sheet([ROWS[0], gone(2)], flags=NORMALISE)
+
+
 def cut():
     return [P8[:k] for k in range(len(P8) + 1)]
 
@@ -230,23 +300,51 @@ def cut():
 # ---- stored fits, and all
 
 def fit(words):
-    """A stored fit as a sheet, and its text. The claims rise with gaps."""
+    """The rows of a stored fit, what else its sheet says, and its text. The claims rise with gaps."""
     n, p, flags, rounds = words[1:5]
     alpha, ratio, tol = map(number, words[5:8])
     values = [number(word) for word in words[8:8 + n * p + n]]
     rows = [(1 + 7 * (i // 3), 2 + 11 * (i % 3), values[i * p:i * p + p], values[n * p + i]) for i in range(n)]
     ended, refusal, place, *rest = words[8 + n * p + n:]
-    data = sheet(rows, p=p, alpha=alpha, ratio=ratio, tol=tol, rounds=rounds, flags=flags)
+    head = {"p": p, "alpha": alpha, "ratio": ratio, "tol": tol, "rounds": rounds, "flags": flags}
     if ended == 0:
-        return data, refused_text((refusal, place))
-    return data, fit_text(["converged", "limit"][ended - 1], rest[:3], rest[3], rest[4:])
+        return rows, head, refused_text((refusal, place))
+    return rows, head, fit_text(["converged", "limit"][ended - 1], rest[:3], rest[3], rest[4:])
+
+
+def mixed(r, rows, full):
+    """The rows with cancelled ones before, between and behind them, 256 in all where they are to be full. The pairs are drawn anew, so that all rise."""
+    gaps = [r.pick([0, 0, 1, 1, 2]) for _ in range(len(rows) + 1)]
+    gaps[r.below(len(gaps))] += (256 - len(rows) - sum(gaps)) if full else 1
+    p, found, source, target = len(rows[0][2]), [], 0, 0
+    for gap, own in itertools.zip_longest(gaps, rows):
+        for _ in range(gap):
+            source, target = source + r.whole(1, 3), 0
+            found.append((source, 0, [r.pick([*NOT_FINITE, r.word(), r.word()]) for _ in range(p)], 0))
+        if own:
+            if source == 0 or r.below(2):
+                source, target = source + r.whole(1, 2), 0
+            target += r.whole(1, 9)
+            found.append((source, target, *own[2:]))
+    return found
+
+
+def with_cancelled(fits):
+    """Some of the fits once more. Cancelled rows change no answer."""
+    r = Random(SEED)
+    for k in range(AGAIN):
+        rows, head, text = fits[k * len(fits) // AGAIN]
+        yield sheet(mixed(r, rows, k % 20 == 0), **head), text
 
 
 def made(fits):
     """All sheets with their texts, from the words of the stored fits."""
-    stored = [fit(words) for words in fits if words[1] <= 256 and words[2] <= 16]
-    edges = [(data, answered(data)) for data in itertools.chain(frames(), pairs(), starts())]
+    whole = [fit(words) for words in fits if words[1] <= 256 and words[2] <= 16]
+    stored = [(sheet(rows, **head), text) for rows, head, text in whole]
+    again = list(with_cancelled(whole))
+    edges = [(data, answered(data)) for data in itertools.chain(frames(), pairs(), starts(), cancelled(), cancelled_beside())]
     shorter = [(data, answered(data)) for data in cut()]
     refused = sum(text.startswith("refused") for _, text in edges)
-    print(f"sheets: {len(stored)} stored fits, {len(edges)} at the edges ({refused} refused), {len(shorter)} cut")
-    return stored + edges + shorter
+    print(f"sheets: {len(stored)} stored fits, {len(again)} of them again with cancelled rows, {len(edges)} at the edges ({refused} refused), "
+          f"{len(shorter)} cut")
+    return stored + again + edges + shorter

@@ -29,8 +29,10 @@ use Rattle.smartcore.specs.LassoOptimizer.{round, rounds, optimize}
 use Rattle.smartcore.specs.ElasticNet.{augmentY, optimizeEager, optimizeFit, rescaled, fit}
 use Rattle.checks.specs.Checks.{limitsOf, startValues}
 use Rattle.promises.specs.Outcome.{outcomeOf}
-use Rattle.sheet.specs.Bytes.{bigEndian}
-use Rattle.sheet.specs.Sheet.{bodyCheck, rowsFrom, roomCheck, matrixOf, targetsOf, headerOf, bodyRead, headerCheck, sheetOf}
+use Rattle.sheet_header.specs.Bytes.{bigEndian}
+use Rattle.sheet_header.specs.Header.{bodyCheck, headerOf, headerCheck}
+use Rattle.sheet.specs.Rows.{claimsFine, rowsFrom, remaining, roomCheck, matrixOf, targetsOf}
+use Rattle.sheet.specs.Sheet.{bodyRows, rowsRead, bodyRead, sheetOf}
 use Rattle.corners.specs.Corners.{settingsOf, two-rows, FitHolds, SheetHolds, AllHold, p8-input, p8-end, p8-sheet, p9-input, p9-end, table}
 
 -- ---- P8 and P9: what does not depend on the scores
@@ -50,7 +52,7 @@ module _ (M R C : ℕ) where
 -- ---- P8
 
 p8-reads : SheetHolds p8-sheet p8-input
-unfolding sheetOf headerCheck bodyRead bodyCheck bigEndian rowsFrom roomCheck matrixOf targetsOf headerOf grid tab
+unfolding sheetOf rowsRead bodyRows bodyRead headerCheck bodyCheck bigEndian rowsFrom claimsFine remaining roomCheck matrixOf targetsOf headerOf grid tab
 p8-reads R C x y l k = rw (l, k) refl
 
 p8-fits : FitHolds p8-input p8-end

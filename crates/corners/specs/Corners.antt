@@ -18,7 +18,7 @@ use Rattle.ending.specs.End.{gone}
 use Rattle.elastic_net.specs.ElasticNet.{Said, limit, refused, Outcome}
 use Rattle.smartcore.specs.ElasticNet.{fit as fitR}
 use Rattle.promises.specs.Outcome.{outcomeOf}
-use Rattle.sheet.specs.declared.Read.the-variants.{Sheet}
+use Rattle.sheet_header.specs.declared.Read.the-variants.{Sheet}
 use Rattle.sheet.specs.Sheet.{outcome, sheetOf}
 
 -- what a fit without flags is asked

@@ -1,5 +1,6 @@
-pub mod Passed
 pub mod Rows
+pub mod Remaining
 pub mod Outcomes
 pub mod Checks
 pub mod Laws
+pub mod Cancelled

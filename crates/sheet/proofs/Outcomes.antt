@@ -1,54 +1,84 @@
 -- The ways out of the two calls. Assumes nothing.
-use mathlib.Core.Path.{_≡_}
+use mathlib.Core.Path.{_≡_, refl, sym, ap, _∙_}
 use mathlib.Core.List.{List}
 use Prim.Native.Nat.{ℕ}
+use native.Mathlib.Omega.{arith}
 use lib.ListN.{length}
 use lib.Ieee.{Float}
 use Rattle.refusal.specs.declared.Refusal.{Refusal}
 use Rattle.refusal.specs.declared.Checked.{Checked}
 use Rattle.refusal.specs.declared.Checked.the-variants.{Fine, Bad}
-use Rattle.sheet.specs.declared.Header.{Header}
-use Rattle.sheet.specs.declared.Read.the-variants.{Sheet, Refused}
-use Rattle.sheet.specs.Sheet.{nOf, pOf, rowsFrom, roomCheck, headerOf, matrixOf, targetsOf, bodyRead}
-use Rattle.sheet.specs.Sheet.{bodyOf, headerCheck, headerRead, Outcome, Outcome.outcome, sheetOf}
-use Rattle.sheet.proofs.Passed.{lent-from, body-lent}
+use Rattle.sheet_header.specs.declared.Header.{Header}
+use Rattle.sheet_header.specs.declared.Read.{Read}
+use Rattle.sheet_header.specs.declared.Read.the-variants.{Sheet, Refused}
+use Rattle.sheet_header.specs.Header.{nOf, pOf, headerOf, bodyOf, headerCheck, readBy}
+use Rattle.sheet_header.proofs.Passed.{lent-from, body-lent, Laid, laid-fine}
+use Rattle.sheet.specs.Rows.{rowsFrom, remaining, roomCheck, matrixOf, targetsOf}
+use Rattle.sheet.specs.Sheet.{remains, bodyRows, rowsRead, Outcome, Outcome.outcome, bodyRead, sheetOf}
 
 -- ---- of a sheet
 
 module _ (b : List ℕ) (R C : ℕ) (k : Checked) (e : k ≡ headerCheck b) where
-  pub header-refused : {q : Refusal} → k ≡ Bad q → Refused q ≡ headerRead b R C
-  unfolding headerRead
-  header-refused f = rw (← e, f)
+  pub count-refused : {q : Refusal} → k ≡ Bad q → Refused q ≡ rowsRead b R C
+  unfolding rowsRead
+  count-refused f = rw (← e, f)
 
-  pub header-read : (h : Header) → k ≡ Fine → h ≡ headerOf (lent-from b) R C → Sheet h ≡ headerRead b R C
-  unfolding headerRead
-  header-read h f g = rw (← e, f, g, body-lent b)
+  pub counted : (r : Read) → k ≡ Fine → r ≡ bodyRows (bodyOf b) R C → r ≡ rowsRead b R C
+  unfolding rowsRead
+  counted r f g = rw (← e, f, g)
+
+  pub lent-counted : (r : Read) → k ≡ Fine → r ≡ bodyRows (lent-from b) R C → r ≡ rowsRead b R C
+  lent-counted r f g = counted r f (rw (body-lent b) at g)
+
+-- ---- a sheet that is counted
+
+-- what is read has passed its check
+pub passed : {h : Header} (k : Checked) {o : Read} → Sheet h ≡ readBy k o → (k ≡ Fine) × (Sheet h ≡ o)
+passed Fine e = (refl, e)
+passed (Bad q) e =
+    let z : _≡_ {A = ℕ} 0 1 = cc in
+    absurd (omega arith)
+
+module _ (b : List ℕ) (R C : ℕ) (o : Read) (e : o ≡ rowsRead b R C) where
+  -- the body has room for its rows, and the header is its own with the n that remains
+  pub counted-header : {h : Header} → o ≡ Sheet h → Laid (bodyOf b) × (h .n ≡ remains (bodyOf b)) × (h .p ≡ pOf (bodyOf b))
+  unfolding rowsRead bodyRows headerOf
+  counted-header {h} f =
+      let d = bodyOf b in
+      let i = passed (headerCheck b) (sym f ∙ e) in
+      let j = passed (rowsFrom d (pOf d) (nOf d) 0) (i .1) .1 in
+      let q : h ≡ headerOf d (remains d) R C = cc in
+      (laid-fine b (headerCheck b) refl (i .0), ap (λ (g : Header). g .n) q, ap (λ (g : Header). g .p) q)
 
   module _ (x y : List Float) where
-    pub sheet-refused : {q : Refusal} → k ≡ Bad q → outcome (Refused q) x y ≡ sheetOf b R C x y
+    pub sheet-refused : {q : Refusal} → o ≡ Refused q → outcome (Refused q) x y ≡ sheetOf b R C x y
     unfolding sheetOf
     sheet-refused f = rw (← e, f)
 
-    pub sheet-read : (o : Outcome) → k ≡ Fine → o ≡ bodyRead (bodyOf b) R C x y → o ≡ sheetOf b R C x y
+    pub sheet-read : {h : Header} {u : Outcome} → o ≡ Sheet h → u ≡ bodyRead (bodyOf b) h x y → u ≡ sheetOf b R C x y
     unfolding sheetOf
-    sheet-read o f g = rw (← e, f, g)
+    sheet-read f g = rw (← e, f) g
 
-    pub lent-read : (o : Outcome) → k ≡ Fine → o ≡ bodyRead (lent-from b) R C x y → o ≡ sheetOf b R C x y
-    lent-read o f g = sheet-read o f (rw (body-lent b) at g)
+    pub lent-read : {h : Header} {u : Outcome} → o ≡ Sheet h → u ≡ bodyRead (lent-from b) h x y → u ≡ sheetOf b R C x y
+    lent-read f g = sheet-read f (rw (body-lent b) at g)
 
 -- ---- of a body
 
-module _ (b : List ℕ) (R C : ℕ) (x y : List Float) (n p : ℕ) (en : n ≡ nOf b) (ep : p ≡ pOf b) (l : Checked) (el : l ≡ rowsFrom b p n 0) where
-  pub bad-row : {q : Refusal} → l ≡ Bad q → outcome (Refused q) x y ≡ bodyRead b R C x y
+module _ (b : List ℕ) (R C : ℕ) (n p : ℕ) (en : n ≡ nOf b) (ep : p ≡ pOf b) (l : Checked) (el : l ≡ rowsFrom b p n 0) where
+  pub bad-count : {q : Refusal} → l ≡ Bad q → Refused q ≡ bodyRows b R C
+  unfolding bodyRows
+  bad-count g = rw (← en, ← ep, ← el, g)
+
+  pub counts-all : (h : Header) (m : ℕ) → l ≡ Fine → m ≡ length (remaining b p n) → h ≡ headerOf b m R C → Sheet h ≡ bodyRows b R C
+  unfolding bodyRows
+  counts-all h m g em eh = rw (eh, em, ← en, ← ep, ← el, g)
+
+module _ (b : List ℕ) (h : Header) (x y : List Float) (k : Checked) (e : k ≡ roomCheck (h .n) (h .p) (length x) (length y)) where
+  pub bad-room : {q : Refusal} → k ≡ Bad q → outcome (Refused q) x y ≡ bodyRead b h x y
   unfolding bodyRead
-  bad-row g = rw (← en, ← ep, ← el, g)
+  bad-room g = rw (← e, g)
 
-  module _ (fl : l ≡ Fine) (m : Checked) (em : m ≡ roomCheck n p (length x) (length y)) where
-    pub bad-room : {q : Refusal} → m ≡ Bad q → outcome (Refused q) x y ≡ bodyRead b R C x y
-    unfolding bodyRead
-    bad-room g = rw (← en, ← ep, ← el, fl, ← em, g)
-
-    pub reads-all : (h : Header) (x′ y′ : List Float) → m ≡ Fine → h ≡ headerOf b R C → x′ ≡ matrixOf b n p → y′ ≡ targetsOf b n p
-        → outcome (Sheet h) x′ y′ ≡ bodyRead b R C x y
-    unfolding bodyRead
-    reads-all h x′ y′ g eh ex ey = rw (eh, ex, ey, ← en, ← ep, ← el, fl, ← em, g)
+  pub reads-all : (n : ℕ) (x′ y′ : List Float) → k ≡ Fine → n ≡ nOf b → h .p ≡ pOf b → x′ ≡ matrixOf b n (h .p) → y′ ≡ targetsOf b n (h .p)
+      → outcome (Sheet h) x′ y′ ≡ bodyRead b h x y
+  unfolding bodyRead
+  reads-all n x′ y′ g en ep ex ey = rw (ex, ey, en, ← e, g, ep)

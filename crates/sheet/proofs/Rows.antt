@@ -1,17 +1,20 @@
 -- The rows one after another: what the tests of one row say of the tests of those that are left. Assumes nothing.
 use mathlib.Core.Path.{_≡_, refl, _∙_}
-use mathlib.Core.Bool.{Bool, true, false, _&&_}
+use mathlib.Core.Bool.{Bool, true, false}
 use mathlib.Core.List.{List}
-use Prim.Native.Nat.{ℕ, zero, suc, _+_, _-_, _*_, _<_}
+use Prim.Native.Nat.{ℕ, zero, suc, _+_, _-_, _*_, _≤_, _<_}
 use native.Mathlib.Omega.{arith}
+use lib.ListN.{length}
 use Rattle.matrices.proofs.Lengths.{next-row}
 use Rattle.refusal.specs.declared.Refusal.{Refusal}
 use Rattle.refusal.specs.declared.Checked.{Checked}
 use Rattle.refusal.specs.declared.Checked.the-variants.{Fine, Bad}
-use Rattle.sheet.specs.Sheet.{sourceOf, targetOf, isClaim, above, rises, rowsFrom}
+use Rattle.sheet_header.specs.Header.{nOf, pOf, row-at}
+use Rattle.sheet_header.proofs.Passed.{Laid}
+use Rattle.sheet.specs.Rows.{sourceOf, targetOf, scoreBits, claimsFine, above, rises, rowsFrom}
 
 abbrev pub claims : List ℕ → ℕ → ℕ → Bool
-claims b p i = isClaim (sourceOf b p i) && isClaim (targetOf b p i)
+claims b p i = claimsFine (sourceOf b p i) (targetOf b p i) (scoreBits b p i)
 
 -- the answer of a row, and of those after it where it is fine
 abbrev ahead : Checked → Checked → Checked
@@ -37,6 +40,11 @@ module _ (b : List ℕ) (p n i : ℕ) (h : i < n) (k : Checked) (e : k ≡ rowsF
 
   pub row-refused : {r : Refusal} → k ≡ Bad r → rowsFrom b p (n - i) i ≡ k
   row-refused f = rw f (rw f at by-row)
+
+-- ---- places
+
+pub rows-within : (b : List ℕ) {n p : ℕ} → n ≡ nOf b → p ≡ pOf b → Laid b → row-at p n ≤ length b
+rows-within b en ep e = rw (en, ep) (omega arith)
 
 -- the row before row i
 pub before-row : (i w : ℕ) → (i ≡ 0 → ⊥) → (i - 1) * w + w ≡ i * w

@@ -1,2 +1,2 @@
-pub mod Bytes
+pub mod Rows
 pub mod Sheet

@@ -1,78 +1,56 @@
-// The training sheet's reader, over a slice of bytes: a version, a length, and behind them the body. A row's place in the matrix comes from its order alone.
-use numbers::bits::of_bits;
+// The training sheet's reader, over a slice of bytes. A row's place in the matrix comes from its order among the rows that remain, alone.
 use refusal::Checked;
 use refusal::Refusal;
 use refusal::in_size;
-use settings::Settings;
+use sheet_header::BODY_AT;
+use sheet_header::Header;
+use sheet_header::N_AT;
+use sheet_header::P_AT;
+use sheet_header::Read;
+use sheet_header::big_endian;
+use sheet_header::float_at;
+use sheet_header::header_check;
+use sheet_header::header_of;
+use sheet_header::row_at;
+use sheet_header::two_bytes;
 ghost use mathlib.Core.Path.{_≡_};
-ghost use Prim.Native.Nat.{_+_, _*_, _^_, _≤_, _<_};
-ghost use lib.ListN.{length};
+ghost use mathlib.Core.Bool.{false, cond};
+ghost use Prim.Native.Nat.{_+_, _*_, _≤_, _<_};
+ghost use lib.ListN.{length, set};
 ghost use Rattle.arrays.specs.Part.{put, tab};
-ghost use Rattle.sheet.specs.Bytes.{bigEndian, two-bytes, float-at};
-ghost use Rattle.sheet.specs.Sheet.{nOf, pOf, row-at, row-bytes, bodyCheck, headerCheck, headerOf, isClaim, above, rises, rowsFrom, roomCheck};
-ghost use Rattle.sheet.specs.Sheet.{matrixOf, targetsOf, Outcome.outcome, bodyRead, sheetOf, headerRead};
+ghost use Rattle.sheet_header.specs.Bytes.{float-at};
+ghost use Rattle.sheet_header.specs.Header.{nOf, pOf, row-at, row-bytes};
+ghost use Rattle.sheet.specs.Rows.{isClaim, claimsFine, above, rises, rowsFrom, cancelled, remaining, roomCheck, featureOf, scoreOf, matrixOf, targetsOf};
+ghost use Rattle.sheet.specs.Sheet.{remains, bodyRows, rowsRead, Outcome.outcome, bodyRead, sheetOf};
 
-// Where the body begins in a sheet.
-const BODY_AT: usize = 5;
-
-// Where its fields stand in the body.
-const N_AT: usize = 0;
-
-const P_AT: usize = 2;
-
-const ALPHA_AT: usize = 4;
-
-const L1_RATIO_AT: usize = 12;
-
-const TOL_AT: usize = 20;
-
-const MAX_ITER_AT: usize = 28;
-
-const FLAGS_AT: usize = 32;
-
-// Where its rows begin, and the first row's features behind its two claims.
-const ROWS_AT: usize = 33;
-
-const FEATURES_AT: usize = 37;
-
-pub struct Header {
-    pub n: usize,
-    pub p: usize,
-    pub settings: Settings,
-}
-
-pub enum Read {
-    Sheet(Header),
-    Refused(Refusal),
-}
-
-// Reads the header alone, with the refusals 11 to 13. R and C are not in a sheet, so the caller gives them.
-pub fn read_header(b: &[u8], rows: usize, cols: usize) -> Read
-    ensures { λ r. ⌜ r ≡ headerRead (now (b .entry)) rows cols ⌝ }
+// Tells how many rows remain, so that a caller can lend for them: the header with that n. The refusals 11 to 15. Total, for all input.
+pub fn count_rows(b: &[u8], rows: usize, cols: usize) -> Read
+    ensures { λ r. ⌜ r ≡ rowsRead (now (b .entry)) rows cols ⌝ }
 {
     let c = header_check(b);
     if let Checked::Bad(k) = c {
         return Read::Refused(k);
     }
-    Read::Sheet(header_of(&b[BODY_AT..], rows, cols))
+    count_body(&b[BODY_AT..], rows, cols)
 }
 
-// Reads a sheet into x and y, which must have n * p and n elements. Nothing is written before every refusal is tested. Total, for all input: the answer and
-// what matrix and targets then hold are `sheetOf`.
+// Reads a sheet into x and y, which must have n * p and n elements for the n rows that remain. Nothing is written before every refusal is tested. Total, for
+// all input: the answer and what matrix and targets then hold are `sheetOf`.
 pub fn read_sheet(b: &[u8], rows: usize, cols: usize, x: &mut [f64], y: &mut [f64]) -> Read
     ensures { λ r. ⌜ outcome r (now (x .exit)) (now (y .exit)) ≡ sheetOf (now (b .entry)) rows cols (now (x .entry)) (now (y .entry)) ⌝ }
 {
-    let c = header_check(b);
-    if let Checked::Bad(k) = c {
-        return Read::Refused(k);
+    match count_rows(b, rows, cols) {
+        Read::Refused(k) => Read::Refused(k),
+        Read::Sheet(h) => read_body(&b[BODY_AT..], h, x, y),
     }
-    read_body(&b[BODY_AT..], rows, cols, x, y)
 }
 
-// Reads a body that is as long as its n and p say: first the refusals 14 and 15 over its rows, then 1 and 2, then what it decodes to.
-fn read_body(b: &[u8], rows: usize, cols: usize, x: &mut [f64], y: &mut [f64]) -> Read
+// ---- from here on every b is a body
+
+// The refusals 14 and 15 over the rows, then how many remain.
+fn count_body(b: &[u8], rows: usize, cols: usize) -> Read
     requires { ⌜ length (now b) ≡ row-at (pOf (now b)) (nOf (now b)) ⌝ }
-    ensures { λ r. ⌜ outcome r (now (x .exit)) (now (y .exit)) ≡ bodyRead (now (b .entry)) rows cols (now (x .entry)) (now (y .entry)) ⌝ }
+    ensures { λ r. ⌜ r ≡ bodyRows (now (b .entry)) rows cols ⌝ }
 {
     let n = two_bytes(b, N_AT);
     let p = two_bytes(b, P_AT);
@@ -80,73 +58,28 @@ fn read_body(b: &[u8], rows: usize, cols: usize, x: &mut [f64], y: &mut [f64]) -
     if let Checked::Bad(k) = c {
         return Read::Refused(k);
     }
-    let c = room_check(n, p, x.len(), y.len());
+    Read::Sheet(header_of(b, count_remaining(b, n, p), rows, cols))
+}
+
+// Reads the rows of a body with this header: first the refusals 1 and 2, then what it decodes to.
+fn read_body(b: &[u8], h: Header, x: &mut [f64], y: &mut [f64]) -> Read
+    requires { ⌜ length (now b) ≡ row-at (pOf (now b)) (nOf (now b)) ⌝ }
+    requires { ⌜ h .n ≡ remains (now b) ⌝ }
+    requires { ⌜ h .p ≡ pOf (now b) ⌝ }
+    ensures { λ r. ⌜ outcome r (now (x .exit)) (now (y .exit)) ≡ bodyRead (now (b .entry)) h (now (x .entry)) (now (y .entry)) ⌝ }
+{
+    let n = two_bytes(b, N_AT);
+    let p = h.p;
+    let c = room_check(h.n, p, x.len(), y.len());
     if let Checked::Bad(k) = c {
         return Read::Refused(k);
     }
     fill_matrix(b, n, p, x);
     fill_targets(b, n, p, y);
-    Read::Sheet(header_of(b, rows, cols))
+    Read::Sheet(h)
 }
 
-// ---- the header; from `body_check` on every b is a body
-
-// Refusals 11 to 13. Fewer than five bytes are refused for their length, before the version is read.
-fn header_check(b: &[u8]) -> Checked
-    ensures { λ r. ⌜ r ≡ headerCheck (now (b .entry)) ⌝ }
-{
-    if b.len() < BODY_AT {
-        return Checked::Bad(Refusal::SheetLength);
-    }
-    if b[0] != 1 {
-        return Checked::Bad(Refusal::Version);
-    }
-    let body = &b[BODY_AT..];
-    if big_endian(b, 1, 4) != body.len() as u64 {
-        return Checked::Bad(Refusal::SheetLength);
-    }
-    body_check(body)
-}
-
-// The body's length against its n and p, then its flags.
-fn body_check(b: &[u8]) -> Checked
-    ensures { λ r. ⌜ r ≡ bodyCheck (now (b .entry)) ⌝ }
-{
-    if b.len() < ROWS_AT {
-        return Checked::Bad(Refusal::SheetLength);
-    }
-    if b.len() != row_at(two_bytes(b, P_AT), two_bytes(b, N_AT)) {
-        return Checked::Bad(Refusal::SheetLength);
-    }
-    if b[FLAGS_AT] > 3 {
-        return Checked::Bad(Refusal::Flags);
-    }
-    Checked::Fine
-}
-
-fn header_of(b: &[u8], rows: usize, cols: usize) -> Header
-    requires { ⌜ 33 ≤ length (now b) ⌝ }
-    ensures { λ r. ⌜ r ≡ headerOf (now (b .entry)) rows cols ⌝ }
-{
-    let flags = b[FLAGS_AT];
-    let settings = Settings {
-        alpha: float_at(b, ALPHA_AT),
-        l1_ratio: float_at(b, L1_RATIO_AT),
-        tol: float_at(b, TOL_AT),
-        max_iter: big_endian(b, MAX_ITER_AT, 4),
-        panel_rows: rows,
-        panel_cols: cols,
-        normalise: flags % 2 == 1,
-        lazy: flags >= 2,
-    };
-    Header {
-        n: two_bytes(b, N_AT),
-        p: two_bytes(b, P_AT),
-        settings,
-    }
-}
-
-// ---- the rows
+// ---- the refusals of the rows
 
 // The refusals 14 and 15 of all n rows.
 fn rows_check(b: &[u8], n: usize, p: usize) -> Checked
@@ -168,16 +101,30 @@ fn row_check(b: &[u8], p: usize, i: usize) -> Checked
     ensures { λ r. ⌜ r ≡ rowsFrom (now (b .entry)) p 1 i ⌝ }
 {
     let at = row_at(p, i);
-    if !is_claim(two_bytes(b, at)) {
-        return Checked::Bad(Refusal::Claim(i));
-    }
-    if !is_claim(two_bytes(b, at + 2)) {
+    let source = two_bytes(b, at);
+    let target = two_bytes(b, at + 2);
+    let score = big_endian(b, at + 4 + 8 * p, 8);
+    if !claims_fine(source, target, score) {
         return Checked::Bad(Refusal::Claim(i));
     }
     if !pair_rises(b, p, i) {
         return Checked::Bad(Refusal::Pair(i));
     }
     Checked::Fine
+}
+
+// Whether two claim numbers and the bits of a score may stand in a row: a cancelled claim has target 0 and no score.
+pub fn claims_fine(source: usize, target: usize, score: u64) -> bool
+    ensures { λ r. ⌜ r ≡ claimsFine source target score ⌝ }
+{
+    if !is_claim(source) {
+        return false;
+    }
+    if target == 0 {
+        score == 0
+    } else {
+        is_claim(target)
+    }
 }
 
 fn is_claim(c: usize) -> bool
@@ -217,7 +164,27 @@ fn pair_above(s: usize, t: usize, u: usize, v: usize) -> bool
     if s == u { t < v } else { false }
 }
 
-// ---- the lent slices
+// ---- what remains
+
+fn is_cancelled(b: &[u8], p: usize, i: usize) -> bool
+    requires { ⌜ row-at p i + row-bytes p ≤ length (now b) ⌝ }
+    ensures { λ r. ⌜ r ≡ cancelled (now (b .entry)) p i ⌝ }
+{
+    two_bytes(b, row_at(p, i) + 2) == 0
+}
+
+fn count_remaining(b: &[u8], n: usize, p: usize) -> usize
+    requires { ⌜ row-at p n ≤ length (now b) ⌝ }
+    ensures { λ r. ⌜ r ≡ length (remaining (now (b .entry)) p n) ⌝ }
+{
+    let mut left = 0;
+    for i in 0..n {
+        if !is_cancelled(b, p, i) {
+            left += 1;
+        }
+    }
+    left
+}
 
 fn room_check(n: usize, p: usize, xl: usize, yl: usize) -> Checked
     ensures { λ r. ⌜ r ≡ roomCheck n p xl yl ⌝ }
@@ -234,20 +201,36 @@ fn room_check(n: usize, p: usize, xl: usize, yl: usize) -> Checked
     Checked::Fine
 }
 
-// The matrix's row is i; the place of the sheet's row moves on by itself, and no claim is read.
+// ---- the lent slices: i is the sheet's row, k the matrix's
+
 fn fill_matrix(b: &[u8], n: usize, p: usize, x: &mut [f64])
     requires { ⌜ row-at p n ≤ length (now b) ⌝ }
-    requires { ⌜ length (now x) ≡ n * p ⌝ }
+    requires { ⌜ length (now x) ≡ length (remaining (now b) p n) * p ⌝ }
     ensures { λ _. ⌜ now (x .exit) ≡ matrixOf (now (b .entry)) n p ⌝ }
 {
-    let mut at = FEATURES_AT;
+    let mut k = 0;
     for i in 0..n {
-        fill_row(b, at, p, x, i * p);
-        at += 12 + 8 * p;
+        k = fill_row(b, p, i, x, k);
     }
 }
 
-fn fill_row(b: &[u8], at: usize, p: usize, x: &mut [f64], out: usize)
+// Row i into row k, unless it is cancelled; answers the matrix's next row.
+fn fill_row(b: &[u8], p: usize, i: usize, x: &mut [f64], k: usize) -> usize
+    requires { ⌜ row-at p i + row-bytes p ≤ length (now b) ⌝ }
+    requires { ⌜ k ≤ i ⌝ }
+    requires { ⌜ (cancelled (now b) p i ≡ false → k * p + p ≤ length (now x)) ⌝ }
+    ensures { λ r. ⌜ r ≡ cond (cancelled (now (b .entry)) p i) k (k + 1) ⌝ }
+    ensures { λ _. ⌜ now (x .exit)
+        ≡ cond (cancelled (now (b .entry)) p i) (now (x .entry)) (put (now (x .entry)) (k * p) (tab (featureOf (now (b .entry)) p i) p)) ⌝ }
+{
+    if is_cancelled(b, p, i) {
+        return k;
+    }
+    fill_features(b, row_at(p, i) + 4, p, x, k * p);
+    k + 1
+}
+
+fn fill_features(b: &[u8], at: usize, p: usize, x: &mut [f64], out: usize)
     requires { ⌜ at + 8 * p ≤ length (now b) ⌝ }
     requires { ⌜ out + p ≤ length (now x) ⌝ }
     ensures { λ _. ⌜ now (x .exit) ≡ put (now (x .entry)) out (tab (λ j. float-at (now (b .entry)) (at + 8 * j)) p) ⌝ }
@@ -259,50 +242,25 @@ fn fill_row(b: &[u8], at: usize, p: usize, x: &mut [f64], out: usize)
 
 fn fill_targets(b: &[u8], n: usize, p: usize, y: &mut [f64])
     requires { ⌜ row-at p n ≤ length (now b) ⌝ }
-    requires { ⌜ p ≤ 64 ⌝ }
-    requires { ⌜ length (now y) ≡ n ⌝ }
+    requires { ⌜ length (now y) ≡ length (remaining (now b) p n) ⌝ }
     ensures { λ _. ⌜ now (y .exit) ≡ targetsOf (now (b .entry)) n p ⌝ }
 {
-    let mut at = FEATURES_AT + 8 * p;
+    let mut k = 0;
     for i in 0..n {
-        y[i] = float_at(b, at);
-        at += 12 + 8 * p;
+        k = fill_score(b, p, i, y, k);
     }
 }
 
-// ---- places and numbers
-
-// Where row i begins.
-fn row_at(p: usize, i: usize) -> usize
-    requires { ⌜ row-at p i + row-bytes p < 2 ^ 64 ⌝ }
-    ensures { λ r. ⌜ r ≡ row-at p i ⌝ }
+// As `fill_row`, for the score.
+fn fill_score(b: &[u8], p: usize, i: usize, y: &mut [f64], k: usize) -> usize
+    requires { ⌜ row-at p i + row-bytes p ≤ length (now b) ⌝ }
+    requires { ⌜ (cancelled (now b) p i ≡ false → k < length (now y)) ⌝ }
+    ensures { λ r. ⌜ r ≡ cond (cancelled (now (b .entry)) p i) k (k + 1) ⌝ }
+    ensures { λ _. ⌜ now (y .exit) ≡ cond (cancelled (now (b .entry)) p i) (now (y .entry)) (set (now (y .entry)) k (scoreOf (now (b .entry)) p i)) ⌝ }
 {
-    ROWS_AT + i * (12 + 8 * p)
-}
-
-fn two_bytes(b: &[u8], at: usize) -> usize
-    requires { ⌜ at + 2 ≤ length (now b) ⌝ }
-    ensures { λ r. ⌜ (r ≡ two-bytes (now (b .entry)) at) × (r < 65536) ⌝ }
-{
-    big_endian(b, at, 2) as usize
-}
-
-fn float_at(b: &[u8], at: usize) -> f64
-    requires { ⌜ at + 8 ≤ length (now b) ⌝ }
-    ensures { λ r. ⌜ r ≡ float-at (now (b .entry)) at ⌝ }
-{
-    of_bits(big_endian(b, at, 8))
-}
-
-// The number in k bytes from `at`, the highest first.
-fn big_endian(b: &[u8], at: usize, k: usize) -> u64
-    requires { ⌜ at + k ≤ length (now b) ⌝ }
-    requires { ⌜ k ≤ 8 ⌝ }
-    ensures { λ r. ⌜ (r ≡ bigEndian (now (b .entry)) at k) × (r < 256 ^ k) ⌝ }
-{
-    let mut v = 0u64;
-    for j in 0..k {
-        v = v * 256 + b[at + j] as u64;
+    if is_cancelled(b, p, i) {
+        return k;
     }
-    v
+    y[k] = float_at(b, row_at(p, i) + 4 + 8 * p);
+    k + 1
 }

@@ -12,20 +12,20 @@ use borrow.Rule.Slice.PartMut.{putMid}
 use Rattle.arrays.specs.Part.{put}
 use Rattle.arrays.proofs.Part.{put-all}
 use Rattle.refusal.specs.declared.Refusal.the-variants.{Size, Length}
-use Rattle.refusal.specs.declared.Checked.{Checked}
-use Rattle.refusal.specs.declared.Checked.the-variants.{Fine, Bad}
+use Rattle.refusal.specs.declared.Checked.the-variants.{Fine}
 use Rattle.refusal.specs.Checks.{ask}
 use Rattle.refusal.specs.Sizes.{inSize}
 use Rattle.refusal.proofs.Asking.{refuted, both-true}
 use Rattle.refusal.proofs.Sizes.{size-of}
-use Rattle.sheet.specs.declared.Header.{Header}
-use Rattle.sheet.specs.declared.Read.{Read}
-use Rattle.sheet.specs.declared.Read.the-variants.{Sheet, Refused}
-use Rattle.sheet.specs.Sheet.{nOf, pOf, rowsFrom, roomCheck, matrixOf, targetsOf, headerOf, Outcome, outcome, byCheck, bodyRead}
-use Rattle.sheet.specs.Sheet.{bodyOf, headerCheck, sheetOf, headerRead}
+use Rattle.sheet_header.specs.declared.Header.{Header}
+use Rattle.sheet_header.specs.declared.Read.{Read}
+use Rattle.sheet_header.specs.declared.Read.the-variants.{Sheet, Refused}
+use Rattle.sheet_header.specs.Header.{bodyOf, headerRead}
+use Rattle.sheet.specs.Rows.{roomCheck}
+use Rattle.sheet.specs.Sheet.{rowsRead, outcome, byCheck, bodyRead, byCount, sheetOf}
 use Rattle.c_values.specs.Settings.{settingsWords}
 use Rattle.sheet_api.specs.Calls.{called, header-words, headerWords, numberIn, placeIn, headerIn, placeWords}
-use Rattle.sheet_api.specs.Calls.{answerIn, unread, readHeaderWords, readAs, readSheetWords}
+use Rattle.sheet_api.specs.Calls.{answerIn, unread, readHeaderWords, readAs, countRowsWords, readSheetWords}
 
 -- ---- the words
 
@@ -77,37 +77,46 @@ room-shut false l m x y x₁ y₁ h q = refl
 room-shut true true m x y x₁ y₁ h q = rw (q refl)
 room-shut true false m x y x₁ y₁ h q = rw (q refl)
 
-check-shut : (k : Checked) (x y : List Float) (o o₀ : Outcome) → unread (answerIn o) ≡ answerIn o₀
-    → unread (answerIn (byCheck k x y o)) ≡ answerIn (byCheck k [] [] o₀)
-check-shut (Bad r) x y o o₀ q = refl
-check-shut Fine x y o o₀ q = q
-
-body-shut : (b : List ℕ) (R C : ℕ) (x y : List Float) → unread (answerIn (bodyRead b R C x y)) ≡ answerIn (bodyRead b R C [] [])
+count-shut : (o : Read) (b : List ℕ) (x y : List Float) → unread (answerIn (byCount o b x y)) ≡ answerIn (byCount o b [] [])
 unfolding bodyRead roomCheck
-body-shut b R C x y =
-    let n = nOf b in
-    let p = pOf b in
-    check-shut (rowsFrom b p n 0) x y _ _
-    (room-shut (inSize n p) (eqb (length x) (n * p) && eqb (length y) n) (eqb 0 (n * p) && eqb 0 n) x y (matrixOf b n p) (targetsOf b n p) (headerOf b R C)
-    (no-room n p))
+count-shut (Refused r) b x y = refl
+count-shut (Sheet h) b x y =
+    let n = h .n in
+    let p = h .p in
+    room-shut (inSize n p) (eqb (length x) (n * p) && eqb (length y) n) (eqb 0 (n * p) && eqb 0 n) x y _ _ h (no-room n p)
 
 -- it is refused with 2 at the latest
 pub shut : (b : List ℕ) (R C : ℕ) (x y : List Float) → unread (answerIn (sheetOf b R C x y)) ≡ answerIn (sheetOf b R C [] [])
 unfolding sheetOf
-shut b R C x y = check-shut (headerCheck b) x y _ _ (body-shut (bodyOf b) R C x y)
+shut b R C x y = count-shut (rowsRead b R C) (bodyOf b) x y
 
 pub refused-told : (b : List ℕ) (R C : ℕ) (pw : List ℕ) {o : Read} {x y : List Float} {k : ℕ} {pw′ : List ℕ} → outcome o x y ≡ sheetOf b R C [] []
     → pw′ ≡ placeWords o pw → k ≡ numberIn o
     → (k ≡ numberIn (answerIn (sheetOf b R C [] []))) × (pw′ ≡ placeWords (answerIn (sheetOf b R C [] [])) pw)
 refused-told b R C pw e ep ek = (rw (← e) ek, rw (← e) ep)
 
--- ---- the whole sheet
+-- ---- header and place
 
 abbrev pub Due : ℕ → ℕ → Bool
 Due h p = eqb h header-words && eqb p 1
 
 pub due-header : (h p : ℕ) → Due h p ≡ true → h ≡ header-words
 due-header h p q = eqb-true h header-words (both-true (eqb h header-words) (eqb p 1) q .0)
+
+-- ---- how many rows remain
+
+module _ (b : List ℕ) (R C : ℕ) (hw pw : List ℕ) where
+  pub count-not-due : {o u : Read} {pw′ : List ℕ} {k : ℕ} → Due (length hw) (length pw) ≡ false → o ≡ rowsRead b R C → u ≡ unread o → pw′ ≡ placeWords u pw
+      → k ≡ numberIn u → called k hw pw′ [] [] ≡ countRowsWords b R C hw pw
+  unfolding countRowsWords readAs
+  count-not-due {o} h eo eu ep ek = rw (h, ← eo, ek, ep, eu, refused-keeps o hw)
+
+  pub count-due : {o : Read} {hw′ pw′ : List ℕ} {k : ℕ} → Due (length hw) (length pw) ≡ true → o ≡ rowsRead b R C → k ≡ numberIn o → hw′ ≡ headerIn o hw
+      → pw′ ≡ placeWords o pw → called k hw′ pw′ [] [] ≡ countRowsWords b R C hw pw
+  unfolding countRowsWords readAs
+  count-due h eo ek eh ep = rw (h, ← eo, ek, eh, ep)
+
+-- ---- the whole sheet
 
 module _ (b : List ℕ) (R C : ℕ) (x y : List Float) (hw pw : List ℕ) where
   pub sheet-not-due : {k : ℕ} {pw′ : List ℕ} → Due (length hw) (length pw) ≡ false → k ≡ numberIn (answerIn (sheetOf b R C [] []))
@@ -117,7 +126,7 @@ module _ (b : List ℕ) (R C : ℕ) (x y : List Float) (hw pw : List ℕ) where
       rw (h, ek, ep, ← shut b R C x y, refused-keeps (answerIn (sheetOf b R C x y)) hw)
 
   pub sheet-due : {o : Read} {x′ y′ : List Float} {hw′ pw′ : List ℕ} {k : ℕ} → Due (length hw) (length pw) ≡ true
-      → outcome o x′ y′ ≡ sheetOf b R C x y → hw′ ≡ headerIn o hw → pw′ ≡ placeWords o pw → k ≡ numberIn o
+      → outcome o x′ y′ ≡ sheetOf b R C x y → k ≡ numberIn o → hw′ ≡ headerIn o hw → pw′ ≡ placeWords o pw
       → called k hw′ pw′ x′ y′ ≡ readSheetWords b R C x y hw pw
   unfolding readSheetWords readAs
-  sheet-due q eo eh ep ek = rw (q, ← eo, ek, eh, ep)
+  sheet-due q eo ek eh ep = rw (q, ← eo, ek, eh, ep)

@@ -3,7 +3,7 @@ use mathlib.Core.Path.{_≡_, sym, ap, _∙_}
 use mathlib.Core.List.{List}
 use Prim.Native.Nat.{ℕ}
 use lib.Ieee.{Float}
-use Rattle.sheet_api.specs.Calls.{Called, called, HeaderCall, SheetCall}
+use Rattle.sheet_api.specs.Calls.{Called, called, HeaderCall, CountCall, SheetCall}
 
 abbrev numberOf : Called → ℕ
 numberOf (called r h p x y) = r
@@ -31,6 +31,12 @@ pub header-call-unique : (b : List ℕ) (R C : ℕ) (hw : List ℕ) {r r′ : �
 header-call-unique b R C hw l k =
     let e = outcomes-coincide l k in
     (e .0, e .1)
+
+pub count-call-unique : (b : List ℕ) (R C : ℕ) (hw pw : List ℕ) {r r′ : ℕ} {hw₁ hw₂ pw₁ pw₂ : List ℕ} → CountCall b R C hw pw r hw₁ pw₁
+    → CountCall b R C hw pw r′ hw₂ pw₂ → (r ≡ r′) × (hw₁ ≡ hw₂) × (pw₁ ≡ pw₂)
+count-call-unique b R C hw pw l k =
+    let e = outcomes-coincide l k in
+    (e .0, e .1, e .2)
 
 pub sheet-call-unique : (b : List ℕ) (R C : ℕ) (x y : List Float) (hw pw : List ℕ) {r r′ : ℕ} {hw₁ hw₂ pw₁ pw₂ : List ℕ} {x₁ x₂ y₁ y₂ : List Float}
     → SheetCall b R C x y hw pw r hw₁ pw₁ x₁ y₁ → SheetCall b R C x y hw pw r′ hw₂ pw₂ x₂ y₂

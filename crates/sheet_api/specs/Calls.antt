@@ -8,10 +8,11 @@ use lib.ListN.{length}
 use lib.Ieee.{Float}
 use Rattle.refusal.specs.declared.Refusal.the-variants.{Length}
 use Rattle.refusal.specs.Refusal.{numberOf, placeOf}
-use Rattle.sheet.specs.declared.Header.{Header}
-use Rattle.sheet.specs.declared.Read.{Read}
-use Rattle.sheet.specs.declared.Read.the-variants.{Sheet, Refused}
-use Rattle.sheet.specs.Sheet.{Outcome, outcome, sheetOf, headerRead}
+use Rattle.sheet_header.specs.declared.Header.{Header}
+use Rattle.sheet_header.specs.declared.Read.{Read}
+use Rattle.sheet_header.specs.declared.Read.the-variants.{Sheet, Refused}
+use Rattle.sheet_header.specs.Header.{headerRead}
+use Rattle.sheet.specs.Sheet.{rowsRead, Outcome, outcome, sheetOf}
 use Rattle.c_values.specs.Settings.{settings-words, settingsWords}
 
 -- the number of a refusal, or 0; the header's words, the place's word, matrix and targets
@@ -60,6 +61,12 @@ readHeaderWords b R C hw =
     let o = headerRead b R C in
     readAs hw [] (outcome (cond (eqb (length hw) header-words) o (unread o)) [] [])
 
+-- the sheet's bytes, R, C, header, place
+unfoldable pub countRowsWords : List ℕ → ℕ → ℕ → List ℕ → List ℕ → Called
+countRowsWords b R C hw pw =
+    let o = rowsRead b R C in
+    readAs hw pw (outcome (cond (eqb (length hw) header-words && eqb (length pw) 1) o (unread o)) [] [])
+
 -- the sheet's bytes, R, C, matrix, targets, header, place
 unfoldable pub readSheetWords : List ℕ → ℕ → ℕ → List Float → List Float → List ℕ → List ℕ → Called
 readSheetWords b R C x y hw pw =
@@ -70,6 +77,9 @@ readSheetWords b R C x y hw pw =
 
 abbrev pub HeaderCall : List ℕ → ℕ → ℕ → List ℕ → ℕ → List ℕ → Type 0
 HeaderCall b R C hw r hw′ = called r hw′ [] [] [] ≡ readHeaderWords b R C hw
+
+abbrev pub CountCall : List ℕ → ℕ → ℕ → List ℕ → List ℕ → ℕ → List ℕ → List ℕ → Type 0
+CountCall b R C hw pw r hw′ pw′ = called r hw′ pw′ [] [] ≡ countRowsWords b R C hw pw
 
 abbrev pub SheetCall : List ℕ → ℕ → ℕ → List Float → List Float → List ℕ → List ℕ → ℕ → List ℕ → List ℕ → List Float → List Float → Type 0
 SheetCall b R C x y hw pw r hw′ pw′ x′ y′ = called r hw′ pw′ x′ y′ ≡ readSheetWords b R C x y hw pw

@@ -6,17 +6,18 @@ use c_values::write_settings;
 use refusal::Refusal;
 use refusal::number;
 use refusal::place;
-use sheet::Header;
-use sheet::Read;
-use sheet::read_header;
+use sheet::count_rows;
 use sheet::read_sheet;
+use sheet_header::Header;
+use sheet_header::Read;
+use sheet_header::read_header;
 ghost use mathlib.Core.Path.{_≡_};
 ghost use mathlib.Core.Bool.{_&&_};
 ghost use mathlib.Core.List.{[]};
 ghost use lib.Dec.{eqb};
 ghost use lib.ListN.{length};
 ghost use Rattle.sheet.specs.Sheet.{sheetOf};
-ghost use Rattle.sheet_api.specs.Calls.{header-words, headerWords, numberIn, placeIn, headerIn, placeWords, answerIn, unread, HeaderCall, SheetCall};
+ghost use Rattle.sheet_api.specs.Calls.{header-words, headerWords, numberIn, placeIn, headerIn, placeWords, answerIn, unread, HeaderCall, CountCall, SheetCall};
 
 // n, p and the settings.
 const HEADER_WORDS: usize = 2 + SETTINGS_WORDS;
@@ -79,7 +80,7 @@ fn due(header: usize, place: usize) -> bool
     place == 1
 }
 
-// What is answered for a header slice of the wrong length: a header that can be read is refused with 2.
+// What is answered where the words have the wrong number: what can be read is refused with 2.
 fn unheld(o: Read) -> Read
     ensures { λ r. ⌜ r ≡ unread o ⌝ }
 {
@@ -87,6 +88,18 @@ fn unheld(o: Read) -> Read
         Read::Sheet(_) => Read::Refused(Refusal::Length),
         Read::Refused(r) => Read::Refused(r),
     }
+}
+
+// Writes header and place, and answers the number.
+fn tell(o: Read, header: &mut [u64], place: &mut [u64]) -> u64
+    requires { ⌜ length (now header) ≡ header-words ⌝ }
+    ensures { λ r. ⌜ r ≡ numberIn o ⌝ }
+    ensures { λ _. ⌜ now (header .exit) ≡ headerIn o (now (header .entry)) ⌝ }
+    ensures { λ _. ⌜ now (place .exit) ≡ placeWords o (now (place .entry)) ⌝ }
+{
+    write_header(o, header);
+    write_place(o, place);
+    number_in(o)
 }
 
 // Reads the sheet into empty slices: it is refused with 2 at the latest, since past 1 it has a row.
@@ -101,7 +114,7 @@ fn refuse(bytes: &[u8], rows: usize, cols: usize, place: &mut [u64]) -> u64
     number_in(o)
 }
 
-// The header of a sheet, as ten words. A refusal leaves them as they were.
+// The header of a sheet, as ten words; its n counts all rows, cancelled ones too. A refusal leaves them as they were.
 #[no_mangle]
 pub extern "C" fn xangoravit_read_header(
     bytes: &[u8],
@@ -117,6 +130,26 @@ pub extern "C" fn xangoravit_read_header(
     }
     write_header(o, header);
     number_in(o)
+}
+
+// The header again, whose n is how many rows remain: x and y are lent for these. The place of a refusal is one word, and a refusal leaves the header's.
+#[no_mangle]
+pub extern "C" fn xangoravit_count_rows(
+    bytes: &[u8],
+    rows: usize,
+    cols: usize,
+    header: &mut [u64],
+    place: &mut [u64],
+) -> u64
+    ensures { λ r. ⌜ CountCall (now (bytes .entry)) rows cols (now (header .entry)) (now (place .entry)) r (now (header .exit)) (now (place .exit)) ⌝ }
+{
+    let o = count_rows(bytes, rows, cols);
+    if !due(header.len(), place.len()) {
+        let u = unheld(o);
+        write_place(u, place);
+        return number_in(u);
+    }
+    tell(o, header, place)
 }
 
 // A sheet into x and y, its header as ten words, and the place of a refusal as one. A refusal leaves all but the place as it was.
@@ -137,7 +170,5 @@ pub extern "C" fn xangoravit_read_sheet(
         return refuse(bytes, rows, cols, place);
     }
     let o = read_sheet(bytes, rows, cols, x, y);
-    write_header(o, header);
-    write_place(o, place);
-    number_in(o)
+    tell(o, header, place)
 }

@@ -1,3 +1,4 @@
 mod Returns
 pub mod Within
 pub mod Unique
+pub mod Cancelled

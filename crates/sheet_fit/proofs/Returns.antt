@@ -25,14 +25,17 @@ use Rattle.whole_fit.specs.declared.Final.{Final}
 use Rattle.whole_fit.specs.declared.Final.the-variants.{Done, Refused as RefusedF}
 use Rattle.whole_fit.specs.declared.Whole.{Whole}
 use Rattle.whole_fit.specs.Fit.{saidFinal, wholeOutcome, wholeOf}
-use Rattle.answer_text.specs.Text.{Written, Written.written, laid, doneText, doneOf}
-use Rattle.sheet.specs.declared.Header.{Header}
-use Rattle.sheet.specs.declared.Read.{Read}
-use Rattle.sheet.specs.declared.Read.the-variants.{Sheet, Refused}
-use Rattle.sheet.specs.Sheet.{nOf, pOf, rowsFrom, roomCheck, headerOf, matrixOf, targetsOf, byCheck, bodyRead}
-use Rattle.sheet.specs.Sheet.{bodyOf, headerCheck, headerRead, headed, sheetOf}
+use Rattle.answer_text.specs.Text.{Written, laid, doneText, doneOf}
+use Rattle.sheet_header.specs.declared.Header.{Header}
+use Rattle.sheet_header.specs.declared.Read.{Read}
+use Rattle.sheet_header.specs.declared.Read.the-variants.{Sheet, Refused}
+use Rattle.sheet_header.specs.Header.{nOf, pOf, headerOf, bodyOf, headerCheck, headerRead}
+use Rattle.sheet.specs.Rows.{roomCheck}
+use Rattle.sheet.specs.Sheet.{rowsRead, byCheck, bodyRead, byCount, sheetOf}
+use Rattle.sheet.proofs.Remaining.{place-most}
+use Rattle.sheet.proofs.Outcomes.{passed, counted-header}
 use Rattle.sheet.specs.Sheet.{Outcome as SheetOutcome, Outcome.outcome as sheet-outcome}
-use Rattle.sheet_fit.specs.SheetFit.{refusalText, bitsOf, endedText, answerText, wholeText, fitText, readText, sizedText, sheetText}
+use Rattle.sheet_fit.specs.SheetFit.{refusalText, bitsOf, endedText, answerText, wholeText, fitText, readText, lentText, sizedText, sheetText}
 
 -- ---- what was written is another's text
 
@@ -75,6 +78,10 @@ module _ {o : SheetOutcome} {r : Read} {x y : List Float} (e : sheet-outcome r x
 
 -- ---- of n rows of p features
 
+pub lent-text : (b : List ℕ) (n p : ℕ) {x y : List Float} → x ≡ fillOf plus0 (n * p) → y ≡ fillOf plus0 n → readText (sheetOf b 32 8 x y) ≡ lentText b n p
+unfolding lentText
+lent-text b n p e f = rw (e, f)
+
 module _ (b : List ℕ) (n p : ℕ) where
   pub many-rows : 256 < n → refusalText TooLarge ≡ sizedText b n p
   unfolding sizedText
@@ -85,9 +92,14 @@ module _ (b : List ℕ) (n p : ℕ) where
     unfolding sizedText
     many-features h = rw (le-leb n 256 l, lt-leb p 16 h)
 
-    pub sized : {x y : List Float} → p ≤ 16 → x ≡ fillOf plus0 (n * p) → y ≡ fillOf plus0 n → readText (sheetOf b 32 8 x y) ≡ sizedText b n p
-    unfolding sizedText
-    sized h e f = rw (le-leb n 256 l, le-leb p 16 h, e, f)
+    module _ (h : p ≤ 16) {r : Read} (e : r ≡ rowsRead b 32 8) where
+      pub count-refused : {q : Refusal} → r ≡ Refused q → refusalText q ≡ sizedText b n p
+      unfolding sizedText
+      count-refused f = rw (le-leb n 256 l, le-leb p 16 h, ← e, f)
+
+      pub count-lent : {k : Header} → r ≡ Sheet k → lentText b (k .n) (k .p) ≡ sizedText b n p
+      unfolding sizedText
+      count-lent f = rw (le-leb n 256 l, le-leb p 16 h, ← e, f)
 
 -- ---- of all bytes
 
@@ -105,40 +117,36 @@ module _ (b : List ℕ) where
     unfolding sheetText
     header-sized f = rw (le-ltb 35878 (length b) l, ← e, f)
 
--- ---- p is that of the header
+-- ---- n and p are those of the header, or fewer rows
 
 module _ (b : List ℕ) (R C : ℕ) {h : Header} where
-  from-header : h ≡ headerOf (bodyOf b) R C → h .p ≡ pOf (bodyOf b)
-  unfolding headerOf
-  from-header e = ap (λ (g : Header). g .p) e
+  pub header-is : {r : Read} → r ≡ headerRead b R C → r ≡ Sheet h → (h .n ≡ nOf (bodyOf b)) × (h .p ≡ pOf (bodyOf b))
+  unfolding headerRead headerOf
+  header-is e f =
+      let i = passed (headerCheck b) (sym f ∙ e) .1 in
+      let q : h ≡ headerOf (bodyOf b) (nOf (bodyOf b)) R C = cc in
+      (ap (λ (g : Header). g .n) q, ap (λ (g : Header). g .p) q)
 
-  pub header-is : {r : Read} → r ≡ headerRead b R C → r ≡ Sheet h → h .p ≡ pOf (bodyOf b)
-  unfolding headerRead
-  header-is {r} e f = go (headerCheck b) (sym f ∙ e) where
-    go : (k : Checked) → Sheet h ≡ headed k (headerOf (bodyOf b) R C) → h .p ≡ pOf (bodyOf b)
-    go Fine i = from-header (cc)
-    go (Bad q) i =
-        let z : _≡_ {A = ℕ} 0 1 = cc in
-        absurd (omega arith)
+  pub count-is : {r : Read} → r ≡ rowsRead b R C → r ≡ Sheet h → (h .n ≤ nOf (bodyOf b)) × (h .p ≡ pOf (bodyOf b))
+  count-is {r} e f =
+      let i = counted-header b R C r e f in
+      (omega (arith, i .1, place-most (bodyOf b) (pOf (bodyOf b)) (nOf (bodyOf b))), i .2)
 
   pub sheet-is : (x y : List Float) {r : Read} {x′ y′ : List Float} → sheet-outcome r x′ y′ ≡ sheetOf b R C x y → r ≡ Sheet h → h .p ≡ pOf (bodyOf b)
   unfolding sheetOf bodyRead
-  sheet-is x y {r} {x′} {y′} e f =
-      let d = bodyOf b in
-      go (headerCheck b) (rowsFrom d (pOf d) (nOf d) 0) (roomCheck (nOf d) (pOf d) (length x) (length y))
-      (matrixOf d (nOf d) (pOf d)) (targetsOf d (nOf d) (pOf d)) (rw f at e) where
-        bad : {q : Refusal} → sheet-outcome (Sheet h) x′ y′ ≡ sheet-outcome (Refused q) x y → h .p ≡ pOf (bodyOf b)
-        bad i =
-            let z : _≡_ {A = ℕ} 0 1 = cc in
-            absurd (omega arith)
+  sheet-is x y {r} {x′} {y′} e f = read (rowsRead b R C) refl (rw f at e) where
+    room : {k : Header} (x₁ y₁ : List Float) (c : Checked) → rowsRead b R C ≡ Sheet k
+        → sheet-outcome (Sheet h) x′ y′ ≡ byCheck c x y (sheet-outcome (Sheet k) x₁ y₁) → h .p ≡ pOf (bodyOf b)
+    room x₁ y₁ Fine g i = counted-header b R C (rowsRead b R C) refl {h = h} (cc) .2
+    room x₁ y₁ (Bad q) g i =
+        let z : _≡_ {A = ℕ} 0 1 = cc in
+        absurd (omega arith)
 
-        go : (c₁ c₂ c₃ : Checked) (x₁ y₁ : List Float)
-            → sheet-outcome (Sheet h) x′ y′ ≡ byCheck c₁ x y (byCheck c₂ x y (byCheck c₃ x y (sheet-outcome (Sheet (headerOf (bodyOf b) R C)) x₁ y₁)))
-            → h .p ≡ pOf (bodyOf b)
-        go Fine Fine Fine x₁ y₁ i = from-header (cc)
-        go (Bad q) c₂ c₃ x₁ y₁ i = bad i
-        go Fine (Bad q) c₃ x₁ y₁ i = bad i
-        go Fine Fine (Bad q) x₁ y₁ i = bad i
+    read : (o : Read) → rowsRead b R C ≡ o → sheet-outcome (Sheet h) x′ y′ ≡ byCount o (bodyOf b) x y → h .p ≡ pOf (bodyOf b)
+    read (Sheet k) g i = room _ _ (roomCheck (k .n) (k .p) (length x) (length y)) g i
+    read (Refused q) g i =
+        let z : _≡_ {A = ℕ} 0 1 = cc in
+        absurd (omega arith)
 
 -- ---- new arrays: all +0, and the first n of them
 

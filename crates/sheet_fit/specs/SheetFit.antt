@@ -18,9 +18,10 @@ use Rattle.settings.specs.declared.Settings.{Settings}
 use Rattle.records.specs.declared.Counts.{Counts}
 use Rattle.elastic_net.specs.ElasticNet.{Said, pending, converged, limit, refused, Outcome}
 use Rattle.whole_fit.specs.Fit.{wholeOf}
-use Rattle.sheet.specs.declared.Read.{Read}
-use Rattle.sheet.specs.declared.Read.the-variants.{Sheet, Refused}
-use Rattle.sheet.specs.Sheet.{outcome, sheetOf, headerRead}
+use Rattle.sheet_header.specs.declared.Read.{Read}
+use Rattle.sheet_header.specs.declared.Read.the-variants.{Sheet, Refused}
+use Rattle.sheet_header.specs.Header.{headerRead}
+use Rattle.sheet.specs.Sheet.{rowsRead, outcome, sheetOf}
 use Rattle.sheet.specs.Sheet.{Outcome as SheetOutcome}
 use Rattle.answer_text.specs.Text.{Written.written, laid, doneText, refusedText}
 
@@ -52,9 +53,18 @@ abbrev pub readText : SheetOutcome → List ℕ
 readText (outcome (Refused r) x y) = refusalText r
 readText (outcome (Sheet h) x y) = fitText (h .n) (h .p) (h .settings) x y
 
--- n rows of p features: 16 after 13
+-- matrix and targets have room for n rows of p features
+unfoldable pub lentText : List ℕ → ℕ → ℕ → List ℕ
+lentText b n p = readText (sheetOf b 32 8 (fillOf plus0 (n * p)) (fillOf plus0 n))
+
+-- they are lent for the rows that remain
+abbrev pub countedText : List ℕ → Read → List ℕ
+countedText b (Refused r) = refusalText r
+countedText b (Sheet h) = lentText b (h .n) (h .p)
+
+-- n rows, cancelled ones too, of p features: 16 after 13
 unfoldable pub sizedText : List ℕ → ℕ → ℕ → List ℕ
-sizedText b n p = cond (leb n 256 && leb p 16) (readText (sheetOf b 32 8 (fillOf plus0 (n * p)) (fillOf plus0 n))) (refusalText TooLarge)
+sizedText b n p = cond (leb n 256 && leb p 16) (countedText b (rowsRead b 32 8)) (refusalText TooLarge)
 
 abbrev pub headedText : List ℕ → Read → List ℕ
 headedText b (Refused r) = refusalText r

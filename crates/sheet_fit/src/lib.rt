@@ -8,9 +8,10 @@ use refusal::Way;
 use refusal::number;
 use refusal::place;
 use settings::Settings;
-use sheet::Read;
-use sheet::read_header;
+use sheet::count_rows;
 use sheet::read_sheet;
+use sheet_header::Read;
+use sheet_header::read_header;
 use whole_fit::Final;
 use whole_fit::fit;
 ghost use mathlib.Core.Path.{_≡_};
@@ -18,8 +19,9 @@ ghost use Prim.Native.Nat.{_≤_};
 ghost use lib.ListN.{length};
 ghost use Rattle.answer_text.specs.Text.{Written.written, laid};
 ghost use Rattle.whole_fit.specs.Fit.{saidFinal, wholeOf};
-ghost use Rattle.sheet.specs.Sheet.{pOf, bodyOf, sheetOf};
-ghost use Rattle.sheet_fit.specs.SheetFit.{refusalText, bitsOf, endedText, answerText, wholeText, fitText, readText, sizedText, sheetText};
+ghost use Rattle.sheet_header.specs.Header.{nOf, pOf, bodyOf};
+ghost use Rattle.sheet.specs.Sheet.{sheetOf};
+ghost use Rattle.sheet_fit.specs.SheetFit.{refusalText, bitsOf, endedText, answerText, wholeText, fitText, readText, lentText, sizedText, sheetText};
 
 fn refused(out: &mut [u8], r: Refusal) -> usize
     ensures { λ k. ⌜ written k (now (out .exit)) ≡ laid (refusalText r) (now (out .entry)) ⌝ }
@@ -114,8 +116,21 @@ fn read_in(b: &[u8], x: &mut [f64], y: &mut [f64], out: &mut [u8]) -> usize
     }
 }
 
-// A sheet whose header is read: n rows of p features, refused with 16 where there are more than 256 or 16.
+// A sheet whose rows are counted: n of p features remain, and matrix and targets are lent for these.
+fn counted(b: &[u8], n: usize, p: usize, out: &mut [u8]) -> usize
+    requires { ⌜ n ≤ 256 ⌝ }
+    requires { ⌜ p ≤ 16 ⌝ }
+    requires { ⌜ p ≡ pOf (bodyOf (now b)) ⌝ }
+    ensures { λ k. ⌜ written k (now (out .exit)) ≡ laid (lentText (now (b .entry)) n p) (now (out .entry)) ⌝ }
+{
+    let mut matrix = [0.0; 4096];
+    let mut scores = [0.0; 256];
+    read_in(b, &mut matrix[0..n * p], &mut scores[0..n], out)
+}
+
+// A sheet whose header is read: n rows of p features, cancelled ones too, refused with 16 where there are more than 256 or 16.
 fn headed(b: &[u8], n: usize, p: usize, out: &mut [u8]) -> usize
+    requires { ⌜ n ≡ nOf (bodyOf (now b)) ⌝ }
     requires { ⌜ p ≡ pOf (bodyOf (now b)) ⌝ }
     ensures { λ k. ⌜ written k (now (out .exit)) ≡ laid (sizedText (now (b .entry)) n p) (now (out .entry)) ⌝ }
 {
@@ -125,9 +140,10 @@ fn headed(b: &[u8], n: usize, p: usize, out: &mut [u8]) -> usize
     if p > 16 {
         return refused(out, Refusal::TooLarge);
     }
-    let mut matrix = [0.0; 4096];
-    let mut scores = [0.0; 256];
-    read_in(b, &mut matrix[0..n * p], &mut scores[0..n], out)
+    match count_rows(b, 32, 8) {
+        Read::Refused(r) => refused(out, r),
+        Read::Sheet(h) => counted(b, h.n, h.p, out),
+    }
 }
 
 // Writes the text of a sheet's fit, or of its refusal, at the front of `out` and answers its length. It needs 2,048 bytes: with fewer it writes nothing and

@@ -1,4 +1,4 @@
-// start, resume, fit_in_pieces, fit, predict, solve and read_sheet once each, on numbers that can be followed by hand; the README quotes what this prints.
+// start, resume, fit_in_pieces, fit, predict, solve, count_rows and read_sheet once each, on numbers that can be followed by hand; the README quotes what this prints.
 use elastic_net::Answer;
 use elastic_net::Started;
 use elastic_net::resume;
@@ -15,8 +15,9 @@ use refusal::Way;
 use refusal::number;
 use refusal::place;
 use settings::Settings;
-use sheet::Read;
+use sheet::count_rows;
 use sheet::read_sheet;
+use sheet_header::Read;
 use whole_fit::Final;
 use whole_fit::fit;
 ghost use mathlib.Core.Path.{_≡_};
@@ -129,16 +130,27 @@ fn solver() {
     solved(r, x[0], x[1], x[2]);
 }
 
-// The pairs are (1, 1) and (3, 2), the rows 0 and 1: a claim number is never a position.
+// The pairs are (1, 1), (2, 0), which is cancelled, with a feature that is no number, and (3, 2). Two rows remain, 0 and 1: a claim number is never a position.
 fn sheet_bytes() {
     let bytes =
-        b"\x01\x00\x00\x00\x49\x00\x02\x00\x01\x3f\xf0\x00\x00\x00\x00\x00\x00\x3f\xf0\x00\x00\x00\x00\x00\x00\x3f\xe0\x00\x00\x00\x00\x00\x00\x00\x00\x00\x00\x00\x00\x01\x00\x01\x3f\xf0\x00\x00\x00\x00\x00\x00\x3f\xf0\x00\x00\x00\x00\x00\x00\x00\x03\x00\x02\x40\x00\x00\x00\x00\x00\x00\x00\x40\x08\x00\x00\x00\x00\x00\x00";
+        b"\x01\x00\x00\x00\x5d\x00\x03\x00\x01\x3f\xf0\x00\x00\x00\x00\x00\x00\x3f\xf0\x00\x00\x00\x00\x00\x00\x3f\xe0\x00\x00\x00\x00\x00\x00\x00\x00\x00\x00\x00\x00\x01\x00\x01\x3f\xf0\x00\x00\x00\x00\x00\x00\x3f\xf0\x00\x00\x00\x00\x00\x00\x00\x02\x00\x00\x7f\xf8\x00\x00\x00\x00\x00\x00\x00\x00\x00\x00\x00\x00\x00\x00\x00\x03\x00\x02\x40\x00\x00\x00\x00\x00\x00\x00\x40\x08\x00\x00\x00\x00\x00\x00";
+    rows_left(count_rows(bytes, 32, 8));
     let mut x = [0.0; 2];
     let mut y = [0.0; 2];
     match read_sheet(bytes, 32, 8, &mut x, &mut y) {
         Read::Sheet(_) => {
             two(b"features", x[0], x[1]);
             two(b"scores", y[0], y[1]);
+        }
+        Read::Refused(r) => refused(r),
+    }
+}
+
+fn rows_left(o: Read) {
+    match o {
+        Read::Sheet(h) => {
+            io::print_decimal(1, h.n as u64);
+            io::write_all(1, b" rows remain\n");
         }
         Read::Refused(r) => refused(r),
     }

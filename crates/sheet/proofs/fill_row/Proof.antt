@@ -1,68 +1,58 @@
--- `sheet::fill_row` meets its contract. The invariant: the first j features are written, and all else is as it was. The measure: p - j. Assumes nothing.
-use Prim.Native.Nat.{_+_, _-_, _*_}
+-- `sheet::fill_row` meets its contract: a row that remains is written whole at its place. Assumes nothing.
+use mathlib.Core.Path.{_≡_, refl, sym, _∙_}
+use mathlib.Core.Bool.{false}
 use native.Mathlib.Omega.{arith}
-use Rattle.arrays.proofs.Turns.{Made, made-none, made-more, made-all}
-use Rattle.sheet.specs.Bytes.{float-at}
+use Rattle.sheet.specs.Rows.{cancelled}
 use Rattle.sheet.proofs.fill_row.Statement.{statement}
 use Rattle.sheet.proofs.fill_row.Tie as tie
 
-abbrev Inv-loop : tie.InvT-loop
-Inv-loop b at p x₀ out j₀ x j = Made x₀ out p (λ k. float-at b (at + 8 * k)) x j
+remains : (c : tie.Else1) → let g = c .before .before .before .before .args in cancelled (g .b .now) (g .p) (g .i) ≡ false
+remains c = sym (c .before .is-cancelled .ensures) ∙ c .if1 .left
 
-abbrev μ-loop : tie.MeasureT-loop
-μ-loop b at p x₀ out j₀ x j = p - j
+is-cancelled-requires : tie.Need-is-cancelled-requires
+is-cancelled-requires c κs = omega arith
 
-loop-holds : tie.Need-loop-holds Inv-loop μ-loop
-loop-holds c = made-none _ _ _ _
+returns : tie.Need-returns
+returns c = rw (sym (c .before .is-cancelled .ensures) ∙ c .if1 .taken) (refl, refl)
 
-mul-float-at : tie.Need-mul-float-at Inv-loop μ-loop
-mul-float-at c = omega arith
+row-at-requires : tie.Need-row-at-requires
+row-at-requires c κs = omega arith
 
-add-float-at : tie.Need-add-float-at Inv-loop μ-loop
-add-float-at c = omega arith
+add-fill-features : tie.Need-add-fill-features
+add-fill-features c = omega arith
 
-float-at-requires : tie.Need-float-at-requires Inv-loop μ-loop
-float-at-requires c κs = omega arith
+mul-fill-features : tie.Need-mul-fill-features
+mul-fill-features c =
+    let e = c .before .before in
+    omega (arith, e .before .before .before .before .pre .1 .1 (remains e))
 
-add-x : tie.Need-add-x Inv-loop μ-loop
-add-x c = omega arith
+fill-features-requires : tie.Need-fill-features-requires
+fill-features-requires c κs =
+    let e = c .before .before in
+    (omega arith, omega (arith, e .before .before .before .before .pre .1 .1 (remains e)))
 
-mul-x : tie.Need-mul-x Inv-loop μ-loop
-mul-x c = omega arith
+add-result : tie.Need-add-result
+add-result c = omega arith
 
-slice-write-x : tie.Need-slice-write-x Inv-loop μ-loop
-slice-write-x c = omega arith
-
-add-j : tie.Need-add-j Inv-loop μ-loop
-add-j c = omega arith
-
-loop-less : tie.Need-loop-less Inv-loop μ-loop
-loop-less c = omega arith
-
-loop-again : tie.Need-loop-again Inv-loop μ-loop
-loop-again c = made-more (c .before .before .loop .inv) _ (c .before .loop-test .taken) (c .float-at .ensures)
-
-same-length : tie.Need-same-length Inv-loop μ-loop
+same-length : tie.Need-same-length
 same-length c = omega arith
 
-returns : tie.Need-returns Inv-loop μ-loop
-returns c = made-all (c .before .loop .inv) (omega arith)
+returns-2 : tie.Need-returns-2
+returns-2 c =
+    let f = c .before .before in
+    let r = f .before .before in
+    rw (remains (r .before)) (refl, rw (r .row-at .ensures) at (f .fill-features .ensures))
 
 pub fill-row-spec : {M : Type 1} → statement M
 fill-row-spec =
     tie.close
     (tie.spec
-    Inv-loop
-    μ-loop
-    loop-holds
-    mul-float-at
-    add-float-at
-    float-at-requires
-    add-x
-    mul-x
-    slice-write-x
-    add-j
-    loop-less
-    loop-again
+    is-cancelled-requires
+    returns
+    row-at-requires
+    add-fill-features
+    mul-fill-features
+    fill-features-requires
+    add-result
     same-length
-    returns)
+    returns-2)

@@ -6,7 +6,7 @@ use native.Mathlib.Omega.{arith}
 use borrow.Author.Tests.{not-true, not-false, eq-eqb, ne-eqb}
 use Rattle.refusal.specs.Sizes.{inSize}
 use Rattle.refusal.proofs.Sizes.{size-of}
-use Rattle.sheet.specs.Sheet.{roomCheck}
+use Rattle.sheet.specs.Rows.{roomCheck}
 use Rattle.sheet.proofs.room_check.Statement.{statement}
 use Rattle.sheet.proofs.room_check.Tie as tie
 

@@ -6,7 +6,7 @@ use native.Mathlib.Omega.{arith}
 use borrow.Author.Needs.{needs}
 use Rattle.matrices.proofs.Lengths.{row-room}
 use Rattle.refusal.specs.declared.Checked.the-variants.{Fine}
-use Rattle.sheet.specs.Sheet.{rowsFrom}
+use Rattle.sheet.specs.Rows.{rowsFrom}
 use Rattle.sheet.proofs.Rows.{row-passed, row-refused}
 use Rattle.sheet.proofs.rows_check.Statement.{statement}
 use Rattle.sheet.proofs.rows_check.Tie as tie

@@ -33,39 +33,33 @@ returns c =
 read-sheet-requires : tie.Need-read-sheet-requires
 read-sheet-requires c κs = tt
 
-write-header-requires : tie.Need-write-header-requires
-write-header-requires c κs =
-    let e = c .before .before .before .before .before .before .before .before in
+tell-requires : tie.Need-tell-requires
+tell-requires c κs =
+    let e = c .before .before .before .before .before .before .before .before .before in
     let g = from (e .before) .args in
     due-header (length (g .header .now)) (length (g .place .now)) (is-due e)
 
-write-place-requires : tie.Need-write-place-requires
-write-place-requires c κs = tt
-
-number-in-requires : tie.Need-number-in-requires
-number-in-requires c κs = tt
-
 same-length-2 : tie.Need-same-length-2
-same-length-2 c = c .before .before .before .before .before .before .before .before .before .before .before .before .before .read-sheet .kept .1 .1 .1 .0
+same-length-2 c = c .before .before .before .before .before .before .before .before .before .before .before .read-sheet .kept .1 .1 .1 .0
 
 same-length-3 : tie.Need-same-length-3
-same-length-3 c = c .before .before .before .before .before .before .before .before .before .before .before .before .before .read-sheet .kept .1 .1 .1 .1 .0
+same-length-3 c = c .before .before .before .before .before .before .before .before .before .before .before .read-sheet .kept .1 .1 .1 .1 .0
 
 same-length-4 : tie.Need-same-length-4
-same-length-4 c = c .before .before .before .before .before .before .before .write-header .kept .1 .0
+same-length-4 c = c .before .before .before .before .tell .kept .1 .0
 
 same-length-5 : tie.Need-same-length-5
-same-length-5 c = c .before .before .before .write-place .kept .1 .0
+same-length-5 c = c .before .before .before .before .tell .kept .1 .1 .0
 
 returns-2 : tie.Need-returns-2
 returns-2 c =
-    let p = c .before .before .before in
-    let w = p .before .before .before .before in
-    let r = w .before .before .before .before .before .before in
+    let w = c .before .before .before .before in
+    let r = w .before .before .before .before .before .before .before in
     let e = r .before .before .before in
     let g = from (e .before) .args in
+    let t = w .tell .ensures in
     sheet-due (g .bytes .now) (g .rows) (g .cols) (g .x .now) (g .y .now) (g .header .now) (g .place .now) (is-due e)
-    (r .read-sheet .ensures) (w .write-header .ensures) (p .write-place .ensures) (c .number-in .ensures)
+    (r .read-sheet .ensures) (t .0) (t .1 .0) (t .1 .1)
 
 pub xangoravit-read-sheet-spec : {M : Type 1} → statement M
 xangoravit-read-sheet-spec =
@@ -76,9 +70,7 @@ xangoravit-read-sheet-spec =
     same-length
     returns
     read-sheet-requires
-    write-header-requires
-    write-place-requires
-    number-in-requires
+    tell-requires
     same-length-2
     same-length-3
     same-length-4

@@ -1,7 +1,7 @@
--- `sheet_fit::headed` meets its contract: past the two size tests the parts of the fixed arrays are long enough. Assumes nothing.
-use Prim.Native.Nat.{_*_}
+-- `sheet_fit::headed` meets its contract: no more rows remain than the two size tests let through. Assumes nothing.
 use native.Mathlib.Omega.{arith}
-use Rattle.sheet_fit.proofs.Returns.{same-text, area, zeros, many-rows, many-features, sized}
+use borrow.Author.Needs.{needs}
+use Rattle.sheet_fit.proofs.Returns.{same-text, many-rows, many-features, count-refused, count-lent, count-is}
 use Rattle.sheet_fit.proofs.headed.Statement.{statement}
 use Rattle.sheet_fit.proofs.headed.Tie as tie
 
@@ -25,44 +25,44 @@ returns-2 c =
     let t = c .before .before .before .before in
     same-text _ (many-features _ _ _ (t .before .if1 .left) (t .if2 .taken)) (c .before .before .refused2 .ensures)
 
-mul-read-in : tie.Need-mul-read-in
-mul-read-in c =
-    let a = area _ _ (c .before .if1 .left) (c .if2 .left) in
-    omega arith
+count-rows-requires : tie.Need-count-rows-requires
+count-rows-requires c κs = tt
 
-sub-read-in : tie.Need-sub-read-in
-sub-read-in c = omega arith
+enum-known-r : tie.Need-enum-known-r
+enum-known-r c = search needs
 
-part-matrix-start : tie.Need-part-matrix-start
-part-matrix-start c = omega arith
+refused-requires-3 : tie.Need-refused-requires-3
+refused-requires-3 c κs = tt
 
-part-matrix-end : tie.Need-part-matrix-end
-part-matrix-end c =
-    let a = area _ _ (c .before .if1 .left) (c .if2 .left) in
-    omega arith
+enum-known-h : tie.Need-enum-known-h
+enum-known-h c = search needs
 
-sub-read-in-2 : tie.Need-sub-read-in-2
-sub-read-in-2 c = omega arith
-
-part-scores-start : tie.Need-part-scores-start
-part-scores-start c = omega arith
-
-part-scores-end : tie.Need-part-scores-end
-part-scores-end c = omega arith
-
-read-in-requires : tie.Need-read-in-requires
-read-in-requires c κs = omega arith
+counted-requires : tie.Need-counted-requires
+counted-requires c κs =
+    let m = c .before .before in
+    let r = m .before .before in
+    let h = count-is _ _ _ (r .count-rows .ensures) (m .h .given .1) in
+    (omega (arith, h .0), (omega (arith, h .1), h .1))
 
 same-length-3 : tie.Need-same-length-3
 same-length-3 c = omega arith
 
 returns-3 : tie.Need-returns-3
 returns-3 c =
-    let e = c .before .before .before .before .before .before .before .before in
-    let l = e .before .if1 .left in
-    let h = e .if2 .left in
-    let g = e .before .before .before .before .args in
-    same-text _ (sized _ _ _ l h (zeros 4096 (g .n * g .p) (area _ _ l h)) (zeros 256 (g .n) l)) (c .before .before .before .before .read-in .ensures)
+    let m = c .before .before .before .before .before in
+    let r = m .before .before in
+    let t = r .before in
+    same-text _ (count-refused _ _ _ (t .before .if1 .left) (t .if2 .left) (r .count-rows .ensures) (m .r .given .1)) (c .before .before .refused3 .ensures)
+
+same-length-4 : tie.Need-same-length-4
+same-length-4 c = omega arith
+
+returns-4 : tie.Need-returns-4
+returns-4 c =
+    let m = c .before .before .before .before .before in
+    let r = m .before .before in
+    let t = r .before in
+    same-text _ (count-lent _ _ _ (t .before .if1 .left) (t .if2 .left) (r .count-rows .ensures) (m .h .given .1)) (c .before .before .counted .ensures)
 
 pub headed-spec : {M : Type 1} → statement M
 headed-spec =
@@ -74,13 +74,12 @@ headed-spec =
     refused-requires-2
     same-length-2
     returns-2
-    mul-read-in
-    sub-read-in
-    part-matrix-start
-    part-matrix-end
-    sub-read-in-2
-    part-scores-start
-    part-scores-end
-    read-in-requires
+    count-rows-requires
+    enum-known-r
+    refused-requires-3
+    enum-known-h
+    counted-requires
     same-length-3
-    returns-3)
+    returns-3
+    same-length-4
+    returns-4)

@@ -1,4 +1,4 @@
--- `sheet::body_check` meets its contract: a body too short for a header is too short for any n and p; each other return is the first test that fails.
+-- `sheet_header::body_check` meets its contract: a body too short for a header is too short for any n and p; each other return is the first test that fails.
 -- Assumes nothing.
 use mathlib.Core.Path.{_≡_, _∙_}
 use mathlib.Core.Bool.{false}
@@ -9,10 +9,10 @@ use native.Mathlib.Omega.{arith}
 use lib.Dec.{eqb}
 use lib.ListN.{length}
 use borrow.Author.Tests.{le-leb, lt-leb, eq-eqb, ne-eqb}
-use Rattle.sheet.specs.Sheet.{nOf, pOf, row-at, bodyCheck}
-use Rattle.sheet.proofs.Passed.{Laid}
-use Rattle.sheet.proofs.body_check.Statement.{statement}
-use Rattle.sheet.proofs.body_check.Tie as tie
+use Rattle.sheet_header.specs.Header.{nOf, pOf, row-at, bodyCheck}
+use Rattle.sheet_header.proofs.Passed.{Laid}
+use Rattle.sheet_header.proofs.body_check.Statement.{statement}
+use Rattle.sheet_header.proofs.body_check.Tie as tie
 
 short : (b : List ℕ) → length b < 33 → eqb (length b) (row-at (pOf b) (nOf b)) ≡ false
 short b h = ne-eqb _ _ (λ (e : length b ≡ row-at (pOf b) (nOf b)). omega arith)

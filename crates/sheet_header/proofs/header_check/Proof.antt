@@ -1,4 +1,4 @@
--- `sheet::header_check` meets its contract: each return is the first test that fails. Assumes nothing.
+-- `sheet_header::header_check` meets its contract: each return is the first test that fails. Assumes nothing.
 use mathlib.Core.Path.{_≡_, sym, ap, _∙_}
 use mathlib.Core.Bool.{true, false}
 use mathlib.Core.List.{List}
@@ -7,11 +7,11 @@ use native.Mathlib.Omega.{arith}
 use lib.Dec.{eqb}
 use lib.ListN.{length}
 use borrow.Author.Tests.{le-leb, lt-leb, eq-eqb, ne-eqb}
-use Rattle.sheet.specs.Bytes.{four-bytes}
-use Rattle.sheet.specs.Sheet.{bodyCheck, bodyOf, headerCheck}
-use Rattle.sheet.proofs.Passed.{lent-from, body-lent}
-use Rattle.sheet.proofs.header_check.Statement.{statement}
-use Rattle.sheet.proofs.header_check.Tie as tie
+use Rattle.sheet_header.specs.Bytes.{four-bytes}
+use Rattle.sheet_header.specs.Header.{bodyCheck, bodyOf, headerCheck}
+use Rattle.sheet_header.proofs.Passed.{lent-from, body-lent}
+use Rattle.sheet_header.proofs.header_check.Statement.{statement}
+use Rattle.sheet_header.proofs.header_check.Tie as tie
 
 -- the length field against the bytes of the part that is lent
 module _ (b : List ℕ) {v : ℕ} (e : v ≡ four-bytes b 1) where

@@ -1,9 +1,9 @@
--- `sheet::float_at` meets its contract. Assumes nothing.
+-- `sheet_header::float_at` meets its contract. Assumes nothing.
 use mathlib.Core.Path.{ap, _∙_}
 use native.Mathlib.Omega.{arith}
 use Rattle.numbers.specs.Ops.{f64}
-use Rattle.sheet.proofs.float_at.Statement.{statement}
-use Rattle.sheet.proofs.float_at.Tie as tie
+use Rattle.sheet_header.proofs.float_at.Statement.{statement}
+use Rattle.sheet_header.proofs.float_at.Tie as tie
 
 big-endian-requires : tie.Need-big-endian-requires
 big-endian-requires c κs = omega arith

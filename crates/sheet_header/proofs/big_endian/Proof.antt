@@ -1,4 +1,4 @@
--- `sheet::big_endian` meets its contract. The invariant: v is the number in the first j bytes, and below 256 ^ j, so that nothing overflows.
+-- `sheet_header::big_endian` meets its contract. The invariant: v is the number in the first j bytes, and below 256 ^ j, so that nothing overflows.
 -- The measure: k - j. Assumes nothing.
 use mathlib.Core.Path.{_≡_, refl}
 use mathlib.Core.List.{List}
@@ -7,9 +7,9 @@ use native.Mathlib.Nat.{pow-suc, pow-le-pow-right, lt-of-lt-of-le}
 use native.Mathlib.Numerals.{add-one}
 use native.Mathlib.Omega.{arith}
 use lib.ListN.{getD}
-use Rattle.sheet.specs.Bytes.{bigEndian}
-use Rattle.sheet.proofs.big_endian.Statement.{statement}
-use Rattle.sheet.proofs.big_endian.Tie as tie
+use Rattle.sheet_header.specs.Bytes.{bigEndian}
+use Rattle.sheet_header.proofs.big_endian.Statement.{statement}
+use Rattle.sheet_header.proofs.big_endian.Tie as tie
 
 none : (b : List ℕ) (at : ℕ) → _≡_ {A = ℕ} 0 (bigEndian b at 0)
 unfolding bigEndian

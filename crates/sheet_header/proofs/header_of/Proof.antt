@@ -1,8 +1,8 @@
--- `sheet::header_of` meets its contract. Assumes nothing.
+-- `sheet_header::header_of` meets its contract. Assumes nothing.
 use native.Mathlib.Omega.{arith}
-use Rattle.sheet.specs.Sheet.{headerOf}
-use Rattle.sheet.proofs.header_of.Statement.{statement}
-use Rattle.sheet.proofs.header_of.Tie as tie
+use Rattle.sheet_header.specs.Header.{headerOf}
+use Rattle.sheet_header.proofs.header_of.Statement.{statement}
+use Rattle.sheet_header.proofs.header_of.Tie as tie
 
 shared-slice-read-flags : tie.Need-shared-slice-read-flags
 shared-slice-read-flags c = omega arith
@@ -22,15 +22,12 @@ big-endian-requires c κs = omega arith
 two-bytes-requires : tie.Need-two-bytes-requires
 two-bytes-requires c κs = omega arith
 
-two-bytes-requires-2 : tie.Need-two-bytes-requires-2
-two-bytes-requires-2 c κs = omega arith
-
 returns : tie.Need-returns
 unfolding headerOf
 returns c =
-    let k = c .before .before in
+    let k = c .before in
     let t = k .before in
-    rw (t .before .before .float-at .ensures, t .before .float-at2 .ensures, t .float-at3 .ensures, k .big-endian .ensures .0, c .before .two-bytes .ensures .0, c .two-bytes2 .ensures .0)
+    rw (t .before .before .float-at .ensures, t .before .float-at2 .ensures, t .float-at3 .ensures, k .big-endian .ensures .0, c .two-bytes .ensures .0)
 
 pub header-of-spec : {M : Type 1} → statement M
 header-of-spec =
@@ -42,5 +39,4 @@ header-of-spec =
     float-at-requires-3
     big-endian-requires
     two-bytes-requires
-    two-bytes-requires-2
     returns)

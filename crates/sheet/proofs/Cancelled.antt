@@ -1,0 +1,151 @@
+-- What cancelled rows change: nothing where there are none, nothing by their features, and 1 where no row remains. Assumes nothing.
+use mathlib.Core.Path.{_≡_, refl, sym, ap, _∙_}
+use mathlib.Core.List.{List}
+use Prim.Native.Nat.{ℕ, zero, suc, _+_, _-_, _*_, _≤_, _<_}
+use native.Mathlib.Nat.{le-refl}
+use native.Mathlib.Omega.{arith}
+use lib.ListN.{length, getD, length-drop}
+use lib.Seq.{getD-drop}
+use lib.Ieee.{Float}
+use borrow.Author.Tests.{eqb-false, eq-eqb, ne-eqb}
+use Rattle.arrays.specs.Part.{tab}
+use Rattle.arrays.proofs.Part.{length-tab, getD-tab, tab-ext}
+use Rattle.matrices.specs.Grid.{grid}
+use Rattle.matrices.proofs.Grid.{grid-ext}
+use Rattle.refusal.proofs.Sizes.{InSize}
+use Rattle.sheet_header.specs.declared.Header.{Header}
+use Rattle.sheet_header.specs.declared.Read.{Read}
+use Rattle.sheet_header.specs.declared.Read.the-variants.{Sheet, Refused}
+use Rattle.sheet_header.specs.Bytes.{bigEndian, float-at}
+use Rattle.sheet_header.specs.Header.{row-at, bodyCheck, headerOf, bodyOf, headerCheck, headerRead, Said.refused, said}
+use Rattle.sheet.specs.Rows.{sourceOf, targetOf, featureOf, scoreOf, scoreBits, rises, rowsFrom, remaining, matrixOf, targetsOf}
+use Rattle.sheet.specs.Sheet.{bodyRows, rowsRead, bodyRead, byCount, sheetOf}
+use Rattle.sheet.proofs.Remaining.{all-remain, none-remain, same-remain, kept}
+use Rattle.sheet.proofs.Laws.{rows-in, columns-in, rows-left, Reads, Counted, FirstRefusal.size, first-refusal}
+
+-- where no target is 0, the rows that remain are 0 to n - 1, and matrix and targets are by the sheet's rows
+pub no-cancelled : (b : List ℕ) (p n : ℕ) → ((i : ℕ) → i < n → targetOf b p i ≡ 0 → ⊥)
+    → (remaining b p n ≡ tab (λ i. i) n)
+    × (length (remaining b p n) ≡ n)
+    × (matrixOf b n p ≡ grid (λ i j. float-at b (row-at p i + 4 + 8 * j)) n p)
+    × (targetsOf b n p ≡ tab (λ i. float-at b (row-at p i + 4 + 8 * p)) n)
+unfolding matrixOf targetsOf
+no-cancelled b p n h =
+    let e = all-remain b p n (λ i l. ne-eqb _ 0 (h i l)) in
+    let place : (i : ℕ) → i < n → getD (tab (λ k. k) n) i 0 ≡ i = λ i l. getD-tab (λ k. k) n i 0 l in (
+      e,
+      ap length e ∙ length-tab (λ k. k) n,
+      rw (e, length-tab (λ k. k) n) (grid-ext _ _ n p (λ i j l k. ap (λ (r : ℕ). featureOf b p r j) (place i l))),
+      rw (e, length-tab (λ k. k) n) (tab-ext _ _ n (λ i l. ap (λ (r : ℕ). float-at b (row-at p r + 4 + 8 * p)) (place i l))),
+    )
+
+-- a sheet without the cancelled rows, whose m rows are those that remain, decodes to the same numbers
+pub as-if-dropped : (b b₀ : List ℕ) (p n m : ℕ) → length (remaining b p n) ≡ m
+    → ((k : ℕ) → k < m → targetOf b₀ p k ≡ 0 → ⊥)
+    → ((k j : ℕ) → k < m → j < p → featureOf b₀ p k j ≡ featureOf b p (getD (remaining b p n) k 0) j)
+    → ((k : ℕ) → k < m → scoreOf b₀ p k ≡ scoreOf b p (getD (remaining b p n) k 0))
+    → (matrixOf b n p ≡ matrixOf b₀ m p) × (targetsOf b n p ≡ targetsOf b₀ m p)
+unfolding matrixOf targetsOf
+as-if-dropped b b₀ p n m e h x y =
+    let d = no-cancelled b₀ p m h in
+    (rw (e, d .2) (grid-ext _ _ m p (λ k j l c. sym (x k j l c))), rw (e, d .3) (tab-ext _ _ m (λ k l. sym (y k l))))
+
+-- where every target is 0 and nothing before 1 refuses the sheet: 1, and nothing is written
+pub none-remains : (b : List ℕ) (R C : ℕ) (x y : List Float) {r : Read} {x′ y′ : List Float} → Reads b R C x y r x′ y′ → Counted b
+    → ((i : ℕ) → i < rows-in b → targetOf (bodyOf b) (columns-in b) i ≡ 0) → (said r ≡ refused 1 0) × (x′ ≡ x) × (y′ ≡ y)
+none-remains b R C x y c w h =
+    let e : rows-left b ≡ 0 = ap length (none-remain (bodyOf b) (columns-in b) (rows-in b) (λ i l. eq-eqb _ 0 (h i l))) in
+    first-refusal b R C x y c (size w (λ (z : InSize (rows-left b) (columns-in b)). omega (arith, z .some-rows)))
+
+-- ---- two sheets that agree in header, claims, scores and the features of the rows that remain
+
+pub record Alike (b b′ : List ℕ) : Type 0 where
+  pub long : length b ≡ length b′
+  pub header : (k : ℕ) → k < 38 → getD b k 0 ≡ getD b′ k 0
+  pub sources : (i : ℕ) → i < rows-in b → sourceOf (bodyOf b) (columns-in b) i ≡ sourceOf (bodyOf b′) (columns-in b) i
+  pub targets : (i : ℕ) → i < rows-in b → targetOf (bodyOf b) (columns-in b) i ≡ targetOf (bodyOf b′) (columns-in b) i
+  pub scores : (i : ℕ) → i < rows-in b → scoreBits (bodyOf b) (columns-in b) i ≡ scoreBits (bodyOf b′) (columns-in b) i
+  pub features : (i j : ℕ) → i < rows-in b → j < columns-in b → (targetOf (bodyOf b) (columns-in b) i ≡ 0 → ⊥)
+      → featureOf (bodyOf b) (columns-in b) i j ≡ featureOf (bodyOf b′) (columns-in b) i j
+
+same-number : (b b′ : List ℕ) (at k : ℕ) → ((j : ℕ) → j < k → getD b (at + j) 0 ≡ getD b′ (at + j) 0) → bigEndian b at k ≡ bigEndian b′ at k
+unfolding bigEndian
+same-number b b′ at zero h = refl
+same-number b b′ at (suc k) h = rw (same-number b b′ at k (λ j l. h j (omega arith)), h k (le-refl (suc k)))
+
+module _ (b b′ : List ℕ) (a : Alike b b′) where
+  -- ---- the header
+
+  field : (at k : ℕ) → at + k ≤ 33 → bigEndian (bodyOf b) at k ≡ bigEndian (bodyOf b′) at k
+  field at k h = same-number (bodyOf b) (bodyOf b′) at k (λ j l. getD-drop 5 b (at + j) 0 ∙ a .header (5 + (at + j)) (omega arith) ∙ sym (getD-drop 5 b′ (at + j) 0))
+
+  flags : getD (bodyOf b) 32 0 ≡ getD (bodyOf b′) 32 0
+  flags = getD-drop 5 b 32 0 ∙ a .header 37 (omega arith) ∙ sym (getD-drop 5 b′ 32 0)
+
+  long : length (bodyOf b) ≡ length (bodyOf b′)
+  long = length-drop 5 b ∙ ap (λ (l : ℕ). l - 5) (a .long) ∙ sym (length-drop 5 b′)
+
+  same-check : headerCheck b ≡ headerCheck b′
+  unfolding headerCheck bodyCheck
+  same-check =
+      let size = same-number b b′ 1 4 (λ j l. a .header (1 + j) (omega arith)) in
+      rw (a .long, a .header 0 (omega arith), size, long, field 2 2 (omega arith), field 0 2 (omega arith), flags)
+
+  same-header : (n R C : ℕ) → headerOf (bodyOf b) n R C ≡ headerOf (bodyOf b′) n R C
+  unfolding headerOf
+  same-header n R C =
+      rw (field 2 2 (omega arith), field 4 8 (omega arith), field 12 8 (omega arith), field 20 8 (omega arith), field 28 4 (omega arith), flags)
+
+  -- ---- the rows
+
+  abbrev n : ℕ
+  n = rows-in b
+
+  abbrev p : ℕ
+  p = columns-in b
+
+  same-rises : (i : ℕ) → i < n → rises (bodyOf b) p i ≡ rises (bodyOf b′) p i
+  same-rises zero h = refl
+  same-rises (suc i) h = rw (a .sources i (omega arith), a .targets i (omega arith), a .sources (suc i) h, a .targets (suc i) h)
+
+  same-rows : (left i : ℕ) → i + left ≤ n → rowsFrom (bodyOf b) p left i ≡ rowsFrom (bodyOf b′) p left i
+  unfolding rowsFrom
+  same-rows zero i h = refl
+  same-rows (suc left) i h =
+      let l : i < n = omega arith in
+      rw (same-rises i l, same-rows left (i + 1) (omega arith), a .sources i l, a .targets i l, a .scores i l)
+
+  same-left : remaining (bodyOf b) p n ≡ remaining (bodyOf b′) p n
+  same-left = same-remain (bodyOf b) (bodyOf b′) p n (a .targets)
+
+  same-matrix : matrixOf (bodyOf b) n p ≡ matrixOf (bodyOf b′) n p
+  unfolding matrixOf
+  same-matrix =
+      rw (← same-left) (grid-ext _ _ _ p (λ i j l m.
+      let k = kept (bodyOf b) p n i l in
+      a .features _ j (k .0) m (eqb-false _ 0 (k .1))))
+
+  same-targets : targetsOf (bodyOf b) n p ≡ targetsOf (bodyOf b′) n p
+  unfolding targetsOf
+  same-targets = rw (← same-left) (tab-ext _ _ _ (λ i l. rw (a .scores _ (kept (bodyOf b) p n i l .0))))
+
+  same-body : (h : Header) (x y : List Float) → bodyRead (bodyOf b) h x y ≡ bodyRead (bodyOf b′) h x y
+  unfolding bodyRead
+  same-body h x y = rw (← field 0 2 (omega arith), ← field 2 2 (omega arith), same-matrix, same-targets)
+
+  -- they have one header, one count and one outcome
+  pub same-header-read : (R C : ℕ) → headerRead b R C ≡ headerRead b′ R C
+  unfolding headerRead
+  same-header-read R C = rw (same-check, ← field 0 2 (omega arith), same-header n R C)
+
+  pub same-count : (R C : ℕ) → rowsRead b R C ≡ rowsRead b′ R C
+  unfolding rowsRead bodyRows
+  same-count R C =
+      rw (same-check, ← field 0 2 (omega arith), ← field 2 2 (omega arith), ← same-left, same-header (rows-left b) R C, same-rows n 0 (omega arith))
+
+  pub cancelled-ignored : (R C : ℕ) (x y : List Float) → sheetOf b R C x y ≡ sheetOf b′ R C x y
+  unfolding sheetOf
+  cancelled-ignored R C x y = rw (same-count R C) (go (rowsRead b′ R C)) where
+    go : (o : Read) → byCount o (bodyOf b) x y ≡ byCount o (bodyOf b′) x y
+    go (Refused r) = refl
+    go (Sheet h) = same-body h x y

@@ -1,0 +1,35 @@
+-- What the contract of `read_header` says: which refusal for which sheet. Assumes nothing.
+use mathlib.Core.Path.{_≡_, refl, sym, ap, _∙_}
+use mathlib.Core.List.{List}
+use Prim.Native.Nat.{ℕ, _≤_, _<_}
+use lib.ListN.{length, getD}
+use Rattle.refusal.specs.declared.Refusal.{Refusal}
+use Rattle.refusal.specs.declared.Refusal.the-variants.{Version, SheetLength, Flags}
+use Rattle.refusal.specs.declared.Checked.the-variants.{Bad}
+use Rattle.sheet_header.specs.declared.Read.{Read}
+use Rattle.sheet_header.specs.declared.Read.the-variants.{Refused}
+use Rattle.sheet_header.specs.Header.{flagsOf, bodyOf, headerCheck, headerRead, Said.refused, said}
+use Rattle.sheet_header.proofs.Checks.{Measured, bad-start, bad-version, bad-measure, bad-flags}
+use Rattle.sheet_header.proofs.Outcomes.{header-refused}
+
+-- ---- the header's refusals, in 01's order
+
+module _ (b : List ℕ) where
+  -- refusal k at place i is the first that holds
+  pub data HeaderRefusal : ℕ → ℕ → Type 0 where
+    short : length b < 5 → HeaderRefusal 12 0
+    version : 5 ≤ length b → (getD b 0 0 ≡ 1 → ⊥) → HeaderRefusal 11 0
+    measure : 5 ≤ length b → getD b 0 0 ≡ 1 → (Measured b → ⊥) → HeaderRefusal 12 0
+    flags : 5 ≤ length b → getD b 0 0 ≡ 1 → Measured b → 3 < flagsOf (bodyOf b) → HeaderRefusal 13 0
+
+  pub header-told : {k i : ℕ} → HeaderRefusal k i → (q : Refusal) × (headerCheck b ≡ Bad q) × (said (Refused q) ≡ refused k i)
+  header-told (short h) = (SheetLength, bad-start b h, refl)
+  header-told (version s h) = (Version, bad-version b s h, refl)
+  header-told (measure s v h) = (SheetLength, bad-measure b s v h, refl)
+  header-told (flags s v m h) = (Flags, bad-flags b s v m h, refl)
+
+  -- 01's number and place are those of the first refusal that holds
+  pub first-header-refusal : (R C : ℕ) {r : Read} → r ≡ headerRead b R C → {k i : ℕ} → HeaderRefusal k i → said r ≡ refused k i
+  first-header-refusal R C c h =
+      let t = header-told h in
+      ap said (c ∙ sym (header-refused b R C (headerCheck b) refl (t .1))) ∙ t .2

@@ -1,0 +1,4 @@
+pub mod Passed
+pub mod Outcomes
+pub mod Checks
+pub mod Laws
