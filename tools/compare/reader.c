@@ -1,5 +1,5 @@
-// Written from the documents alone, 01's "Training sheet" and 02's T-03: the bytes in their order, the refusals in theirs; a wrong number of words is a 2 as with
-// other slices. Writes nothing but the place where it refuses.
+// Written from the documents alone, 01's "Training sheet" and 02's T-03, and docs/RULES.md for the count: the bytes in their order, the refusals in theirs; a
+// wrong number of words is a 2 as with other slices. Writes nothing but the place where it refuses.
 #include "reader.h"
 
 enum { VERSION, LENGTH, ROWS = 5, COLUMNS = 7, ALPHA = 9, L1_RATIO = 17, TOL = 25, LIMIT = 33, FLAGS = 37, PAIRS = 38 };

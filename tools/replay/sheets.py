@@ -147,7 +147,7 @@ ROWS = [(1, 1, [1.0], 1.0), (3, 2, [2.0], 3.0)]
 P8 = sheet(ROWS)
 FOUR = grown(4, 3)
 MOST = grown(256, 16)
-# 02's sheet: P8's with a cancelled row between its two. Then four rows, with a cancelled one before the first and before the third.
+# P8's sheet with a cancelled row between its two. Then four rows, with a cancelled one before the first and before the third.
 THREE = [ROWS[0], gone(2), ROWS[1]]
 HOLES = struck(struck([(1 + i, 5, x, y) for i, (_, _, x, y) in enumerate(grown(6, 3))], 0), 3)
 
@@ -326,6 +326,7 @@ def mixed(r, rows, full):
                 source, target = source + r.whole(1, 2), 0
             target += r.whole(1, 9)
             found.append((source, target, *own[2:]))
+    assert len(found) <= 256 and source <= 999 and target <= 999
     return found
 
 

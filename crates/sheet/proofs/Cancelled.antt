@@ -20,8 +20,8 @@ use Rattle.sheet_header.specs.Bytes.{bigEndian, float-at}
 use Rattle.sheet_header.specs.Header.{row-at, bodyCheck, headerOf, bodyOf, headerCheck, headerRead, Said.refused, said}
 use Rattle.sheet.specs.Rows.{sourceOf, targetOf, featureOf, scoreOf, scoreBits, rises, rowsFrom, remaining, matrixOf, targetsOf}
 use Rattle.sheet.specs.Sheet.{bodyRows, rowsRead, bodyRead, byCount, sheetOf}
-use Rattle.sheet.proofs.Remaining.{all-remain, none-remain, same-remain, kept}
-use Rattle.sheet.proofs.Laws.{rows-in, columns-in, rows-left, Reads, Counted, FirstRefusal.size, first-refusal}
+use Rattle.sheet.proofs.Remaining.{all-remain, none-remain, same-remain, uncancelled}
+use Rattle.sheet.proofs.Laws.{rows-in, columns-in, rows-left, Reads, BytesFine, counts-remaining, FirstRefusal.size, first-refusal}
 
 -- where no target is 0, the rows that remain are 0 to n - 1, and matrix and targets are by the sheet's rows
 pub no-cancelled : (b : List ℕ) (p n : ℕ) → ((i : ℕ) → i < n → targetOf b p i ≡ 0 → ⊥)
@@ -39,25 +39,61 @@ no-cancelled b p n h =
       rw (e, length-tab (λ k. k) n) (tab-ext _ _ n (λ i l. ap (λ (r : ℕ). float-at b (row-at p r + 4 + 8 * p)) (place i l))),
     )
 
--- a sheet without the cancelled rows, whose m rows are those that remain, decodes to the same numbers
-pub as-if-dropped : (b b₀ : List ℕ) (p n m : ℕ) → length (remaining b p n) ≡ m
-    → ((k : ℕ) → k < m → targetOf b₀ p k ≡ 0 → ⊥)
-    → ((k j : ℕ) → k < m → j < p → featureOf b₀ p k j ≡ featureOf b p (getD (remaining b p n) k 0) j)
-    → ((k : ℕ) → k < m → scoreOf b₀ p k ≡ scoreOf b p (getD (remaining b p n) k 0))
-    → (matrixOf b n p ≡ matrixOf b₀ m p) × (targetsOf b n p ≡ targetsOf b₀ m p)
-unfolding matrixOf targetsOf
-as-if-dropped b b₀ p n m e h x y =
-    let d = no-cancelled b₀ p m h in
-    (rw (e, d .2) (grid-ext _ _ m p (λ k j l c. sym (x k j l c))), rw (e, d .3) (tab-ext _ _ m (λ k l. sym (y k l))))
-
 -- where every target is 0 and nothing before 1 refuses the sheet: 1, and nothing is written
-pub none-remains : (b : List ℕ) (R C : ℕ) (x y : List Float) {r : Read} {x′ y′ : List Float} → Reads b R C x y r x′ y′ → Counted b
+pub none-remains : (b : List ℕ) (R C : ℕ) (x y : List Float) {r : Read} {x′ y′ : List Float} → Reads b R C x y r x′ y′ → BytesFine b
     → ((i : ℕ) → i < rows-in b → targetOf (bodyOf b) (columns-in b) i ≡ 0) → (said r ≡ refused 1 0) × (x′ ≡ x) × (y′ ≡ y)
 none-remains b R C x y c w h =
     let e : rows-left b ≡ 0 = ap length (none-remain (bodyOf b) (columns-in b) (rows-in b) (λ i l. eq-eqb _ 0 (h i l))) in
     first-refusal b R C x y c (size w (λ (z : InSize (rows-left b) (columns-in b)). omega (arith, z .some-rows)))
 
--- ---- two sheets that agree in header, claims, scores and the features of the rows that remain
+-- ---- a sheet, and one that has those of its rows alone that remain
+
+pub record Dropped (b b₀ : List ℕ) : Type 0 where
+  pub header : (n R C : ℕ) → headerOf (bodyOf b) n R C ≡ headerOf (bodyOf b₀) n R C
+  pub rows : rows-left b ≡ rows-in b₀
+  pub targets : (k : ℕ) → k < rows-in b₀ → targetOf (bodyOf b₀) (columns-in b) k ≡ 0 → ⊥
+  pub features : (k j : ℕ) → k < rows-in b₀ → j < columns-in b
+      → featureOf (bodyOf b₀) (columns-in b) k j ≡ featureOf (bodyOf b) (columns-in b) (getD (remaining (bodyOf b) (columns-in b) (rows-in b)) k 0) j
+  pub scores : (k : ℕ) → k < rows-in b₀
+      → scoreOf (bodyOf b₀) (columns-in b) k ≡ scoreOf (bodyOf b) (columns-in b) (getD (remaining (bodyOf b) (columns-in b) (rows-in b)) k 0)
+
+module _ (b b₀ : List ℕ) (a : Dropped b b₀) where
+  pub columns : columns-in b ≡ columns-in b₀
+  unfolding headerOf
+  columns = ap (λ (h : Header). h .p) (a .header 0 0 0)
+
+  -- no row of the second is cancelled
+  whole : let d = bodyOf b₀ in
+      let p = columns-in b in
+      (rows-left b₀ ≡ rows-in b₀) × (matrixOf d (rows-in b₀) p ≡ grid (featureOf d p) (rows-in b₀) p) × (targetsOf d (rows-in b₀) p ≡ tab (scoreOf d p) (rows-in b₀))
+  whole =
+      let w = no-cancelled (bodyOf b₀) (columns-in b) (rows-in b₀) (a .targets) in
+      (rw (← columns) (w .1), w .2, w .3)
+
+  same-numbers : (matrixOf (bodyOf b) (rows-in b) (columns-in b) ≡ matrixOf (bodyOf b₀) (rows-in b₀) (columns-in b₀))
+      × (targetsOf (bodyOf b) (rows-in b) (columns-in b) ≡ targetsOf (bodyOf b₀) (rows-in b₀) (columns-in b₀))
+  unfolding matrixOf targetsOf
+  same-numbers =
+      rw (← columns, whole .1, whole .2, a .rows)
+      (grid-ext _ _ (rows-in b₀) (columns-in b) (λ k j l m. sym (a .features k j l m)), tab-ext _ _ (rows-in b₀) (λ k l. sym (a .scores k l)))
+
+  same-body-of : (h : Header) (x y : List Float) → bodyRead (bodyOf b) h x y ≡ bodyRead (bodyOf b₀) h x y
+  unfolding bodyRead
+  same-body-of h x y = rw (same-numbers .0, same-numbers .1)
+
+  -- where neither is refused by its bytes, they have one count and one outcome
+  module _ (w : BytesFine b) (w₀ : BytesFine b₀) (R C : ℕ) where
+    pub dropped-count : rowsRead b R C ≡ rowsRead b₀ R C
+    dropped-count = rw (counts-remaining b R C refl w, counts-remaining b₀ R C refl w₀, a .rows, whole .0, a .header (rows-in b₀) R C)
+
+    pub as-if-dropped : (x y : List Float) → sheetOf b R C x y ≡ sheetOf b₀ R C x y
+    unfolding sheetOf
+    as-if-dropped x y = rw dropped-count (go (rowsRead b₀ R C)) where
+      go : (o : Read) → byCount o (bodyOf b) x y ≡ byCount o (bodyOf b₀) x y
+      go (Refused r) = refl
+      go (Sheet h) = same-body-of h x y
+
+-- ---- two sheets that agree in length, header, claims, scores and the features of the rows that remain
 
 pub record Alike (b b′ : List ℕ) : Type 0 where
   pub long : length b ≡ length b′
@@ -122,12 +158,12 @@ module _ (b b′ : List ℕ) (a : Alike b b′) where
   unfolding matrixOf
   same-matrix =
       rw (← same-left) (grid-ext _ _ _ p (λ i j l m.
-      let k = kept (bodyOf b) p n i l in
+      let k = uncancelled (bodyOf b) p n i l in
       a .features _ j (k .0) m (eqb-false _ 0 (k .1))))
 
   same-targets : targetsOf (bodyOf b) n p ≡ targetsOf (bodyOf b′) n p
   unfolding targetsOf
-  same-targets = rw (← same-left) (tab-ext _ _ _ (λ i l. rw (a .scores _ (kept (bodyOf b) p n i l .0))))
+  same-targets = rw (← same-left) (tab-ext _ _ _ (λ i l. rw (a .scores _ (uncancelled (bodyOf b) p n i l .0))))
 
   same-body : (h : Header) (x y : List Float) → bodyRead (bodyOf b) h x y ≡ bodyRead (bodyOf b′) h x y
   unfolding bodyRead

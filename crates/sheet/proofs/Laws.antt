@@ -3,10 +3,9 @@
 use mathlib.Core.Path.{_≡_, refl, sym, ap, _∙_}
 use mathlib.Core.Logic.{_⊎_, inl, inr}
 use mathlib.Core.List.{List}
-use Prim.Native.Nat.{ℕ, _*_, _≤_, _<_}
-use native.Mathlib.Decide.{ℕ-discrete, decLt}
+use Prim.Native.Nat.{ℕ, _*_, _<_}
 use native.Mathlib.Omega.{arith}
-use lib.ListN.{length, getD}
+use lib.ListN.{length}
 use lib.Ieee.{Float}
 use Rattle.refusal.specs.declared.Refusal.{Refusal}
 use Rattle.refusal.specs.declared.Refusal.the-variants.{Size, Length, Claim, Pair}
@@ -16,14 +15,14 @@ use Rattle.refusal.proofs.Sizes.{InSize, size-known}
 use Rattle.sheet_header.specs.declared.Header.{Header}
 use Rattle.sheet_header.specs.declared.Read.{Read}
 use Rattle.sheet_header.specs.declared.Read.the-variants.{Sheet, Refused}
-use Rattle.sheet_header.specs.Header.{nOf, pOf, flagsOf, headerOf, bodyOf, headerCheck, Said.refused, said}
-use Rattle.sheet_header.proofs.Checks.{Measured, Headed, measured-known, good-header}
-use Rattle.sheet_header.proofs.Laws.{HeaderRefusal, HeaderRefusal.short, HeaderRefusal.version, HeaderRefusal.measure, HeaderRefusal.flags, header-told}
+use Rattle.sheet_header.specs.Header.{nOf, pOf, headerOf, bodyOf, headerCheck, Said.refused, said}
+use Rattle.sheet_header.proofs.Checks.{Headed, good-header}
+use Rattle.sheet_header.proofs.Laws.{HeaderRefusal, header-told, every-header}
 use Rattle.sheet.specs.Rows.{rowsFrom, roomCheck, matrixOf, targetsOf}
 use Rattle.sheet.specs.Sheet.{remains, rowsRead, Outcome, Outcome.outcome, byCheck, bodyRead, byCount, sheetOf}
 use Rattle.sheet.proofs.Checks.{RowClaims, Rises, RowsFine, BadRow, Lengths, rows-known, lengths-known}
 use Rattle.sheet.proofs.Checks.{bad-claim, bad-pair, good-rows, bad-size, bad-length, good-room}
-use Rattle.sheet.proofs.Outcomes.{count-refused, counted, sheet-refused, sheet-read, bad-count, counts-all, bad-room, reads-all}
+use Rattle.sheet.proofs.Outcomes.{count-refused, count-read, sheet-refused, sheet-read, bad-count, counts-all, bad-room, reads-all}
 
 -- n and p of a sheet, and how many of its n rows remain
 abbrev pub rows-in : List ℕ → ℕ
@@ -70,36 +69,24 @@ module _ (b : List ℕ) where
     pair : Headed b → {i : ℕ} → i < rows-in b → RowsFine (bodyOf b) i → RowClaims (bodyOf b) i → (Rises (bodyOf b) i → ⊥) → RowRefusal 15 i
 
   -- none of them holds
-  pub record Counted : Type 0 where
+  pub record BytesFine : Type 0 where
     pub header : Headed b
     pub rows : RowsFine (bodyOf b) (rows-in b)
 
   abbrev Told : Type 0
-  Told = Counted ⊎ ((k : ℕ) × (i : ℕ) × RowRefusal k i)
+  Told = BytesFine ⊎ ((k : ℕ) × (i : ℕ) × RowRefusal k i)
 
   -- every sheet is in one row of the table, or in none
-  pub every-count : Counted ⊎ ((k : ℕ) × (i : ℕ) × RowRefusal k i)
-  every-count = begins (decLt (length b) 5) where
+  pub every-count : BytesFine ⊎ ((k : ℕ) × (i : ℕ) × RowRefusal k i)
+  every-count = begins (every-header b) where
     rows : Headed b → RowsFine (bodyOf b) (rows-in b) ⊎ BadRow (bodyOf b) (rows-in b) → Told
     rows h (inl f) = inl (record { header = h; rows = f })
     rows h (inr (i, l, f, inl c)) = inr (14, i, claim h l f c)
     rows h (inr (i, l, f, inr (c, r))) = inr (15, i, pair h l f c r)
 
-    flagged : 5 ≤ length b → getD b 0 0 ≡ 1 → Measured b → Dec (3 < flagsOf (bodyOf b)) → Told
-    flagged s v m (yes g) = inr (13, 0, header (flags s v m g))
-    flagged s v m (no g) = rows (record { begun = s; version = v; measured = m; flags = omega (arith, g) }) (rows-known (bodyOf b) (rows-in b))
-
-    measures : 5 ≤ length b → getD b 0 0 ≡ 1 → Dec (Measured b) → Told
-    measures s v (yes m) = flagged s v m (decLt 3 (flagsOf (bodyOf b)))
-    measures s v (no m) = inr (12, 0, header (measure s v m))
-
-    versions : 5 ≤ length b → Dec (getD b 0 0 ≡ 1) → Told
-    versions s (yes v) = measures s v (measured-known b)
-    versions s (no v) = inr (11, 0, header (version s v))
-
-    begins : Dec (length b < 5) → Told
-    begins (yes h) = inr (12, 0, header (short h))
-    begins (no h) = versions (omega (arith, h)) (ℕ-discrete (getD b 0 0) 1)
+    begins : Headed b ⊎ ((k : ℕ) × (i : ℕ) × HeaderRefusal b k i) → Told
+    begins (inl h) = rows h (rows-known (bodyOf b) (rows-in b))
+    begins (inr (k, i, h)) = inr (k, i, header h)
 
   -- the check that refuses it: the header's, or behind it the rows'
   abbrev RefusedBy : Refusal → Type 0
@@ -115,7 +102,7 @@ module _ (b : List ℕ) where
   module _ (R C : ℕ) where
     count-told : (q : Refusal) → RefusedBy q → rowsRead b R C ≡ Refused q
     count-told q (inl e) = sym (count-refused b R C (headerCheck b) refl e)
-    count-told q (inr (h, e)) = sym (counted b R C (headerCheck b) refl _ (good-header b h) (bad-count (bodyOf b) R C _ _ refl refl _ refl e))
+    count-told q (inr (h, e)) = sym (count-read b R C (headerCheck b) refl _ (good-header b h) (bad-count (bodyOf b) R C _ _ refl refl _ refl e))
 
     module _ {r : Read} (c : r ≡ rowsRead b R C) where
       -- 01's number and place are those of the first refusal that holds
@@ -125,10 +112,10 @@ module _ (b : List ℕ) where
           ap said (c ∙ count-told (t .0) (t .1)) ∙ t .2
 
       -- where none holds, the header has the n that remains
-      pub counts-remaining : Counted → r ≡ Sheet (headerOf (bodyOf b) (rows-left b) R C)
+      pub counts-remaining : BytesFine → r ≡ Sheet (headerOf (bodyOf b) (rows-left b) R C)
       counts-remaining w =
           let l = good-rows (bodyOf b) _ (w .rows) in
-          c ∙ sym (counted b R C (headerCheck b) refl _ (good-header b (w .header)) (counts-all (bodyOf b) R C _ _ refl refl _ refl _ _ l refl refl))
+          c ∙ sym (count-read b R C (headerCheck b) refl _ (good-header b (w .header)) (counts-all (bodyOf b) R C _ _ refl refl _ refl _ _ l refl refl))
 
 module _ (b : List ℕ) (R C : ℕ) (x y : List Float) where
   pub outcomes-coincide : {r q : Read} {x′ x″ y′ y″ : List Float} → Reads b R C x y r x′ y′ → Reads b R C x y q x″ y″ → (r ≡ q) × (x′ ≡ x″) × (y′ ≡ y″)
@@ -145,12 +132,12 @@ module _ (b : List ℕ) (R C : ℕ) (x y : List Float) where
   -- refusal k at place i is the first that holds; 1 and 2 are by what remains
   pub data FirstRefusal : ℕ → ℕ → Type 0 where
     bytes : {k i : ℕ} → RowRefusal b k i → FirstRefusal k i
-    size : Counted b → (InSize (rows-left b) (columns-in b) → ⊥) → FirstRefusal 1 0
-    lengths : Counted b → InSize (rows-left b) (columns-in b) → (Lengths (rows-left b) (columns-in b) (length x) (length y) → ⊥) → FirstRefusal 2 0
+    size : BytesFine b → (InSize (rows-left b) (columns-in b) → ⊥) → FirstRefusal 1 0
+    lengths : BytesFine b → InSize (rows-left b) (columns-in b) → (Lengths (rows-left b) (columns-in b) (length x) (length y) → ⊥) → FirstRefusal 2 0
 
   -- none of them holds
   pub record WellFormed : Type 0 where
-    pub counted : Counted b
+    pub bytes : BytesFine b
     pub size : InSize (rows-left b) (columns-in b)
     pub lengths : Lengths (rows-left b) (columns-in b) (length x) (length y)
 
@@ -160,11 +147,11 @@ module _ (b : List ℕ) (R C : ℕ) (x y : List Float) where
   -- every sheet is in one row of the table, or in none
   pub every-sheet : WellFormed ⊎ ((k : ℕ) × (i : ℕ) × FirstRefusal k i)
   every-sheet = begins (every-count b) where
-    longs : Counted b → InSize (rows-left b) (columns-in b) → Dec (Lengths (rows-left b) (columns-in b) (length x) (length y)) → Placed
-    longs h z (yes l) = inl (record { counted = h; size = z; lengths = l })
+    longs : BytesFine b → InSize (rows-left b) (columns-in b) → Dec (Lengths (rows-left b) (columns-in b) (length x) (length y)) → Placed
+    longs h z (yes l) = inl (record { bytes = h; size = z; lengths = l })
     longs h z (no l) = inr (2, 0, lengths h z l)
 
-    sizes : Counted b → Dec (InSize (rows-left b) (columns-in b)) → Placed
+    sizes : BytesFine b → Dec (InSize (rows-left b) (columns-in b)) → Placed
     sizes h (yes z) = longs h z (lengths-known (rows-left b) (columns-in b) (length x) (length y))
     sizes h (no z) = inr (1, 0, size h z)
 
@@ -173,10 +160,10 @@ module _ (b : List ℕ) (R C : ℕ) (x y : List Float) where
     begins (inr (k, i, h)) = inr (k, i, bytes h)
 
   -- past the bytes' own refusals
-  body-told : Counted b → {o : Outcome} → o ≡ bodyRead (bodyOf b) (headerOf (bodyOf b) (rows-left b) R C) x y → sheetOf b R C x y ≡ o
+  body-told : BytesFine b → {o : Outcome} → o ≡ bodyRead (bodyOf b) (headerOf (bodyOf b) (rows-left b) R C) x y → sheetOf b R C x y ≡ o
   body-told w e = sym (sheet-read b R C (rowsRead b R C) refl x y (counts-remaining b R C refl w) e)
 
-  room-told : (q : Refusal) → Counted b → roomCheck (rows-left b) (columns-in b) (length x) (length y) ≡ Bad q
+  room-told : (q : Refusal) → BytesFine b → roomCheck (rows-left b) (columns-in b) (length x) (length y) ≡ Bad q
       → sheetOf b R C x y ≡ outcome (Refused q) x y
   unfolding headerOf
   room-told q w e = body-told w (bad-room (bodyOf b) (headerOf (bodyOf b) (rows-left b) R C) x y _ refl e)
@@ -205,7 +192,7 @@ module _ (b : List ℕ) (R C : ℕ) (x y : List Float) where
     well-formed-read w =
         let h = headerOf (bodyOf b) (rows-left b) R C in
         let m = good-room _ _ _ _ (w .size) (w .lengths) in
-        let e = c ∙ body-told (w .counted) (reads-all (bodyOf b) h x y _ refl _ _ _ m refl refl refl refl) in
+        let e = c ∙ body-told (w .bytes) (reads-all (bodyOf b) h x y _ refl _ _ _ m refl refl refl refl) in
         (ap answerIn e, ap matrixIn e, ap targetsIn e)
 
   -- ---- what a count says is what the sheet asks for
@@ -221,7 +208,7 @@ module _ (b : List ℕ) (R C : ℕ) (x y : List Float) where
         let q : h ≡ headerOf (bodyOf b) (rows-left b) R C = cc in
         let en : h .n ≡ rows-left b = ap (λ (g : Header). g .n) q in
         let ep : h .p ≡ columns-in b = ap (λ (g : Header). g .p) q in
-        (q, record { counted = w; size = rw (en, ep) at z; lengths = record { matrix = rw (en, ep) at lx; targets = rw en at ly } })
+        (q, record { bytes = w; size = rw (en, ep) at z; lengths = record { matrix = rw (en, ep) at lx; targets = rw en at ly } })
     go (inr (k, i, w)) =
         let c = e ∙ count-told b R C _ (row-told b w .1) in
         let f : _≡_ {A = ℕ} 0 1 = cc in

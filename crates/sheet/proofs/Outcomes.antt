@@ -2,7 +2,6 @@
 use mathlib.Core.Path.{_≡_, refl, sym, ap, _∙_}
 use mathlib.Core.List.{List}
 use Prim.Native.Nat.{ℕ}
-use native.Mathlib.Omega.{arith}
 use lib.ListN.{length}
 use lib.Ieee.{Float}
 use Rattle.refusal.specs.declared.Refusal.{Refusal}
@@ -11,8 +10,8 @@ use Rattle.refusal.specs.declared.Checked.the-variants.{Fine, Bad}
 use Rattle.sheet_header.specs.declared.Header.{Header}
 use Rattle.sheet_header.specs.declared.Read.{Read}
 use Rattle.sheet_header.specs.declared.Read.the-variants.{Sheet, Refused}
-use Rattle.sheet_header.specs.Header.{nOf, pOf, headerOf, bodyOf, headerCheck, readBy}
-use Rattle.sheet_header.proofs.Passed.{lent-from, body-lent, Laid, laid-fine}
+use Rattle.sheet_header.specs.Header.{nOf, pOf, headerOf, bodyOf, headerCheck}
+use Rattle.sheet_header.proofs.Passed.{lent-from, body-lent, Laid, laid-fine, passed}
 use Rattle.sheet.specs.Rows.{rowsFrom, remaining, roomCheck, matrixOf, targetsOf}
 use Rattle.sheet.specs.Sheet.{remains, bodyRows, rowsRead, Outcome, Outcome.outcome, bodyRead, sheetOf}
 
@@ -23,21 +22,14 @@ module _ (b : List ℕ) (R C : ℕ) (k : Checked) (e : k ≡ headerCheck b) wher
   unfolding rowsRead
   count-refused f = rw (← e, f)
 
-  pub counted : (r : Read) → k ≡ Fine → r ≡ bodyRows (bodyOf b) R C → r ≡ rowsRead b R C
+  pub count-read : (r : Read) → k ≡ Fine → r ≡ bodyRows (bodyOf b) R C → r ≡ rowsRead b R C
   unfolding rowsRead
-  counted r f g = rw (← e, f, g)
+  count-read r f g = rw (← e, f, g)
 
-  pub lent-counted : (r : Read) → k ≡ Fine → r ≡ bodyRows (lent-from b) R C → r ≡ rowsRead b R C
-  lent-counted r f g = counted r f (rw (body-lent b) at g)
+  pub lent-count : (r : Read) → k ≡ Fine → r ≡ bodyRows (lent-from b) R C → r ≡ rowsRead b R C
+  lent-count r f g = count-read r f (rw (body-lent b) at g)
 
 -- ---- a sheet that is counted
-
--- what is read has passed its check
-pub passed : {h : Header} (k : Checked) {o : Read} → Sheet h ≡ readBy k o → (k ≡ Fine) × (Sheet h ≡ o)
-passed Fine e = (refl, e)
-passed (Bad q) e =
-    let z : _≡_ {A = ℕ} 0 1 = cc in
-    absurd (omega arith)
 
 module _ (b : List ℕ) (R C : ℕ) (o : Read) (e : o ≡ rowsRead b R C) where
   -- the body has room for its rows, and the header is its own with the n that remains

@@ -23,19 +23,19 @@ module _ (b : List ℕ) (p : ℕ) where
 
   -- ---- one row more: it remains, or not
 
-  pub one-more : (i : ℕ) → cancelled b p i ≡ false → remaining b p (i + 1) ≡ remaining b p i ++ (i ∷ [])
+  row-more : (i : ℕ) → cancelled b p i ≡ false → remaining b p (i + 1) ≡ remaining b p i ++ (i ∷ [])
   unfolding remaining
-  one-more i e = rw (add-one i, e)
+  row-more i e = rw (add-one i, e)
 
-  pub one-less : (i : ℕ) → cancelled b p i ≡ true → remaining b p (i + 1) ≡ remaining b p i
+  row-gone : (i : ℕ) → cancelled b p i ≡ true → remaining b p (i + 1) ≡ remaining b p i
   unfolding remaining
-  one-less i e = rw (add-one i, e) (append-nil (remaining b p i))
+  row-gone i e = rw (add-one i, e) (append-nil (remaining b p i))
 
   -- ---- places
 
   pub place-next : (i : ℕ) (t : Bool) → cancelled b p i ≡ t → place (i + 1) ≡ cond t (place i) (place i + 1)
-  place-next i true e = ap length (one-less i e)
-  place-next i false e = ap length (one-more i e) ∙ length-append (remaining b p i) (i ∷ [])
+  place-next i true e = ap length (row-gone i e)
+  place-next i false e = ap length (row-more i e) ∙ length-append (remaining b p i) (i ∷ [])
 
   place-up : (i : ℕ) (t : Bool) → cancelled b p i ≡ t → (place i ≤ place (i + 1)) × (place (i + 1) ≤ place i + 1)
   place-up i true e =
@@ -54,7 +54,7 @@ module _ (b : List ℕ) (p : ℕ) where
       let e : place (suc i) ≡ place (i + 1) = ap place (sym (add-one i)) in
       omega arith
 
-  pub place-rises : (i n : ℕ) → i ≤ n → place i ≤ place n
+  place-rises : (i n : ℕ) → i ≤ n → place i ≤ place n
   place-rises i zero h =
       let e : i ≡ 0 = omega arith in
       rw e (le-refl (place 0))
@@ -79,7 +79,7 @@ module _ (b : List ℕ) (p : ℕ) where
   unfolding remaining
   stays i k h = List·getD-append (remaining b p i) (cond (cancelled b p i) [] (i ∷ [])) 0 k h
 
-  pub stands : (i n k : ℕ) → i ≤ n → k < place i → getD (remaining b p n) k 0 ≡ getD (remaining b p i) k 0
+  stands : (i n k : ℕ) → i ≤ n → k < place i → getD (remaining b p n) k 0 ≡ getD (remaining b p i) k 0
   stands i zero k h l =
       let e : i ≡ 0 = omega arith in
       rw e
@@ -95,7 +95,7 @@ module _ (b : List ℕ) (p : ℕ) where
   pub stands-there : (i n : ℕ) → i < n → cancelled b p i ≡ false → getD (remaining b p n) (place i) 0 ≡ i
   stands-there i n h e =
       stands (i + 1) n (place i) (omega arith) (omega (arith, place-next i false e))
-      ∙ ap (λ (l : List ℕ). getD l (place i) 0) (one-more i e)
+      ∙ ap (λ (l : List ℕ). getD l (place i) 0) (row-more i e)
       ∙ ap (λ (k : ℕ). getD (remaining b p i ++ (i ∷ [])) k 0) (sym (add-zero (place i)))
       ∙ getD-append-add (remaining b p i) (i ∷ []) 0 0
 
@@ -119,17 +119,17 @@ same-remain b b′ p (suc n) h = rw (h n (le-refl (suc n)), same-remain b b′ p
 
 -- what remains is one of the rows, and not cancelled
 module _ (b : List ℕ) (p : ℕ) where
-  abbrev Kept : ℕ → ℕ → Type 0
-  Kept n k = (getD (remaining b p n) k 0 < n) × (cancelled b p (getD (remaining b p n) k 0) ≡ false)
+  abbrev Uncancelled : ℕ → ℕ → Type 0
+  Uncancelled n k = (getD (remaining b p n) k 0 < n) × (cancelled b p (getD (remaining b p n) k 0) ≡ false)
 
-  pub kept : (n k : ℕ) → k < place b p n → Kept n k
+  pub uncancelled : (n k : ℕ) → k < place b p n → Uncancelled n k
   unfolding remaining
-  kept zero k h = absurd (omega arith)
-  kept (suc n) k h = go (decLt k (place b p n)) (cancelled b p n) refl (kept n k) where
+  uncancelled zero k h = absurd (omega arith)
+  uncancelled (suc n) k h = go (decLt k (place b p n)) (cancelled b p n) refl (uncancelled n k) where
     more : place b p (suc n) ≡ place b p (n + 1)
     more = ap (place b p) (sym (add-one n))
 
-    go : Dec (k < place b p n) → (t : Bool) → cancelled b p n ≡ t → (k < place b p n → Kept n k) → Kept (suc n) k
+    go : Dec (k < place b p n) → (t : Bool) → cancelled b p n ≡ t → (k < place b p n → Uncancelled n k) → Uncancelled (suc n) k
     go (yes l) t e rec =
         let r = rec l in
         rw (stays b p n k l) (omega (arith, r .0), r .1)

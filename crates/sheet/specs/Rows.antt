@@ -6,6 +6,7 @@ use Prim.Native.Nat.{ℕ, zero, suc, _+_, _*_}
 use lib.Dec.{leb, ltb, eqb}
 use lib.ListN.{length, getD}
 use lib.Ieee.{Float}
+use Rattle.numbers.specs.Ops.{f64}
 use Rattle.arrays.specs.Part.{tab}
 use Rattle.matrices.specs.Grid.{grid}
 use Rattle.refusal.specs.declared.Refusal.the-variants.{Size, Length, Claim, Pair}
@@ -27,11 +28,11 @@ targetOf b p i = two-bytes b (row-at p i + 2)
 abbrev pub featureOf : List ℕ → ℕ → ℕ → ℕ → Float
 featureOf b p i j = float-at b (row-at p i + 4 + 8 * j)
 
-abbrev pub scoreOf : List ℕ → ℕ → ℕ → Float
-scoreOf b p i = float-at b (row-at p i + 4 + 8 * p)
-
 abbrev pub scoreBits : List ℕ → ℕ → ℕ → ℕ
 scoreBits b p i = bigEndian b (row-at p i + 4 + 8 * p) 8
+
+abbrev pub scoreOf : List ℕ → ℕ → ℕ → Float
+scoreOf b p i = f64 (scoreBits b p i)
 
 -- ---- the rows that remain
 

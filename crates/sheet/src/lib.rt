@@ -186,6 +186,8 @@ fn count_remaining(b: &[u8], n: usize, p: usize) -> usize
     left
 }
 
+// ---- the lent slices
+
 fn room_check(n: usize, p: usize, xl: usize, yl: usize) -> Checked
     ensures { λ r. ⌜ r ≡ roomCheck n p xl yl ⌝ }
 {
@@ -201,8 +203,7 @@ fn room_check(n: usize, p: usize, xl: usize, yl: usize) -> Checked
     Checked::Fine
 }
 
-// ---- the lent slices: i is the sheet's row, k the matrix's
-
+// i is the sheet's row, k the matrix's.
 fn fill_matrix(b: &[u8], n: usize, p: usize, x: &mut [f64])
     requires { ⌜ row-at p n ≤ length (now b) ⌝ }
     requires { ⌜ length (now x) ≡ length (remaining (now b) p n) * p ⌝ }

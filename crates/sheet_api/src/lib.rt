@@ -1,6 +1,6 @@
 // The training sheet's reader for C and Rust, over bytes, with the header as words (specs/Calls.antt says which).
-// Each call returns the number of the refusal, 0 where there is none. A slice of the wrong length is refused with 2, after 11 to 15 and 1.
-// The place's word is written with every answer.
+// Each call returns the number of the refusal, 0 where there is none. A slice of the wrong length is refused with 2, after what is wrong with the bytes, and in
+// the whole reader after 1. The place's word is written with every answer.
 use c_values::SETTINGS_WORDS;
 use c_values::write_settings;
 use refusal::Refusal;

@@ -33,7 +33,8 @@ use Rattle.sheet_header.specs.Header.{nOf, pOf, headerOf, bodyOf, headerCheck, 
 use Rattle.sheet.specs.Rows.{roomCheck}
 use Rattle.sheet.specs.Sheet.{rowsRead, byCheck, bodyRead, byCount, sheetOf}
 use Rattle.sheet.proofs.Remaining.{place-most}
-use Rattle.sheet.proofs.Outcomes.{passed, counted-header}
+use Rattle.sheet_header.proofs.Passed.{passed}
+use Rattle.sheet.proofs.Outcomes.{counted-header}
 use Rattle.sheet.specs.Sheet.{Outcome as SheetOutcome, Outcome.outcome as sheet-outcome}
 use Rattle.sheet_fit.specs.SheetFit.{refusalText, bitsOf, endedText, answerText, wholeText, fitText, readText, lentText, sizedText, sheetText}
 

@@ -1,15 +1,18 @@
--- What the contract of `read_header` says: which refusal for which sheet. Assumes nothing.
+-- What the contract of `read_header` says: which refusal for which sheet, and that a header with no fault is read. Assumes nothing.
 use mathlib.Core.Path.{_≡_, refl, sym, ap, _∙_}
+use mathlib.Core.Logic.{_⊎_, inl, inr}
 use mathlib.Core.List.{List}
 use Prim.Native.Nat.{ℕ, _≤_, _<_}
+use native.Mathlib.Decide.{ℕ-discrete, decLt}
+use native.Mathlib.Omega.{arith}
 use lib.ListN.{length, getD}
 use Rattle.refusal.specs.declared.Refusal.{Refusal}
 use Rattle.refusal.specs.declared.Refusal.the-variants.{Version, SheetLength, Flags}
 use Rattle.refusal.specs.declared.Checked.the-variants.{Bad}
 use Rattle.sheet_header.specs.declared.Read.{Read}
-use Rattle.sheet_header.specs.declared.Read.the-variants.{Refused}
-use Rattle.sheet_header.specs.Header.{flagsOf, bodyOf, headerCheck, headerRead, Said.refused, said}
-use Rattle.sheet_header.proofs.Checks.{Measured, bad-start, bad-version, bad-measure, bad-flags}
+use Rattle.sheet_header.specs.declared.Read.the-variants.{Sheet, Refused}
+use Rattle.sheet_header.specs.Header.{nOf, flagsOf, headerOf, bodyOf, headerCheck, headerRead, Said.refused, said}
+use Rattle.sheet_header.proofs.Checks.{Measured, Headed, measured-known, bad-start, bad-version, bad-measure, bad-flags, good-header}
 use Rattle.sheet_header.proofs.Outcomes.{header-refused}
 
 -- ---- the header's refusals, in 01's order
@@ -33,3 +36,27 @@ module _ (b : List ℕ) where
   first-header-refusal R C c h =
       let t = header-told h in
       ap said (c ∙ sym (header-refused b R C (headerCheck b) refl (t .1))) ∙ t .2
+
+  -- every sheet is in one row of the table, or in none
+  pub every-header : Headed b ⊎ ((k : ℕ) × (i : ℕ) × HeaderRefusal k i)
+  every-header = begins (decLt (length b) 5) where
+    flagged : 5 ≤ length b → getD b 0 0 ≡ 1 → Measured b → Dec (3 < flagsOf (bodyOf b)) → Headed b ⊎ ((k : ℕ) × (i : ℕ) × HeaderRefusal k i)
+    flagged s v m (yes g) = inr (13, 0, flags s v m g)
+    flagged s v m (no g) = inl (record { begun = s; version = v; measured = m; flags = omega (arith, g) })
+
+    measures : 5 ≤ length b → getD b 0 0 ≡ 1 → Dec (Measured b) → Headed b ⊎ ((k : ℕ) × (i : ℕ) × HeaderRefusal k i)
+    measures s v (yes m) = flagged s v m (decLt 3 (flagsOf (bodyOf b)))
+    measures s v (no m) = inr (12, 0, measure s v m)
+
+    versions : 5 ≤ length b → Dec (getD b 0 0 ≡ 1) → Headed b ⊎ ((k : ℕ) × (i : ℕ) × HeaderRefusal k i)
+    versions s (yes v) = measures s v (measured-known b)
+    versions s (no v) = inr (11, 0, version s v)
+
+    begins : Dec (length b < 5) → Headed b ⊎ ((k : ℕ) × (i : ℕ) × HeaderRefusal k i)
+    begins (yes h) = inr (12, 0, short h)
+    begins (no h) = versions (omega (arith, h)) (ℕ-discrete (getD b 0 0) 1)
+
+  -- where none holds, the header is read
+  pub headed-read : (R C : ℕ) {r : Read} → r ≡ headerRead b R C → Headed b → r ≡ Sheet (headerOf (bodyOf b) (nOf (bodyOf b)) R C)
+  unfolding headerRead
+  headed-read R C c h = c ∙ rw (good-header b h)

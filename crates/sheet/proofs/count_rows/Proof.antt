@@ -4,7 +4,7 @@ use borrow.Author.Needs.{needs}
 use lib.ListN.{length-drop}
 use Rattle.sheet_header.specs.Header.{bodyOf}
 use Rattle.sheet_header.proofs.Passed.{Laid, body-lent, laid-fine}
-use Rattle.sheet.proofs.Outcomes.{count-refused, lent-counted}
+use Rattle.sheet.proofs.Outcomes.{count-refused, lent-count}
 use Rattle.sheet.proofs.count_rows.Statement.{statement}
 use Rattle.sheet.proofs.count_rows.Tie as tie
 
@@ -45,7 +45,7 @@ returns-2 : tie.Need-returns-2
 returns-2 c =
     let t = c .before .before in
     let k = t .before .before .header-check in
-    lent-counted _ _ _ (k .result) (k .ensures) _ (t .enum-told .given .1) (c .count-body .ensures)
+    lent-count _ _ _ (k .result) (k .ensures) _ (t .enum-told .given .1) (c .count-body .ensures)
 
 pub count-rows-spec : {M : Type 1} → statement M
 count-rows-spec =

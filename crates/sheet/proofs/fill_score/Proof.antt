@@ -1,4 +1,4 @@
--- `sheet::fill_score` meets its contract: the score of a row that remains is written at its place. Assumes nothing.
+-- `sheet::fill_score` meets its contract: the score of a row that uncancelled is written at its place. Assumes nothing.
 use mathlib.Core.Path.{_≡_, refl, sym, _∙_}
 use mathlib.Core.Bool.{false}
 use native.Mathlib.Omega.{arith}
@@ -7,8 +7,8 @@ use Rattle.sheet.specs.Rows.{cancelled}
 use Rattle.sheet.proofs.fill_score.Statement.{statement}
 use Rattle.sheet.proofs.fill_score.Tie as tie
 
-remains : (c : tie.Else1) → let g = c .before .before .before .before .args in cancelled (g .b .now) (g .p) (g .i) ≡ false
-remains c = sym (c .before .is-cancelled .ensures) ∙ c .if1 .left
+uncancelled : (c : tie.Else1) → let g = c .before .before .before .before .args in cancelled (g .b .now) (g .p) (g .i) ≡ false
+uncancelled c = sym (c .before .is-cancelled .ensures) ∙ c .if1 .left
 
 is-cancelled-requires : tie.Need-is-cancelled-requires
 is-cancelled-requires c κs = omega arith
@@ -34,17 +34,17 @@ float-at-requires c κs = omega arith
 mul-y : tie.Need-mul-y
 mul-y c =
     let e = c .before .before in
-    omega (arith, e .before .before .before .before .pre .1 (remains e))
+    omega (arith, e .before .before .before .before .pre .1 (uncancelled e))
 
 slice-write-y : tie.Need-slice-write-y
 slice-write-y c =
     let e = c .before .before in
-    omega (arith, e .before .before .before .before .pre .1 (remains e))
+    omega (arith, e .before .before .before .before .pre .1 (uncancelled e))
 
 add-result : tie.Need-add-result
 add-result c =
     let e = c .before .before in
-    omega (arith, e .before .before .before .before .pre .1 (remains e))
+    omega (arith, e .before .before .before .before .pre .1 (uncancelled e))
 
 same-length : tie.Need-same-length
 same-length c = search needs
@@ -52,7 +52,7 @@ same-length c = search needs
 returns-2 : tie.Need-returns-2
 returns-2 c =
     let r = c .before in
-    rw (remains (r .before)) (refl, rw (c .float-at .ensures, r .row-at .ensures))
+    rw (uncancelled (r .before)) (refl, rw (c .float-at .ensures, r .row-at .ensures))
 
 pub fill-score-spec : {M : Type 1} → statement M
 fill-score-spec =
