@@ -81,7 +81,7 @@ static void cancel(struct paper *a, u64 count) {
 
 // ---- sizes
 
-// Rows, columns and cancelled rows, which are at most one a source. Of more than 4,096 rows at most 4,096 are left, or one too many.
+// Rows, columns and cancelled rows, which are at most one a source. Of more than 4,096 rows at most 4,096 are left, or one too many, or far more.
 static void at_bounds(struct paper *a) {
     static const u64 bounds[][3] = {{4096, 64}, {4096, 1}, {1, 64}, {4097, 1}, {1, 65}, {4096, 65}, {4097, 64}, {0, 0}, {0, 1}, {0, 65535}, {1, 0}, {65535, 0}, {1, 65535},
                                     {5095, 64, 999}, {5095, 1, 999}, {4097, 64, 1}, {4097, 2, 1}, {5096, 1, 999}, {4098, 5, 1}, {4999, 3, 999}, {5095, 1, 998}, {4096, 7, 500},

@@ -1,4 +1,5 @@
--- What cancelled rows change: nothing where there are none, nothing by their features, and 1 where no row remains. Assumes nothing.
+-- What cancelled rows change: nothing where there are none, nothing by their features, nothing against a sheet without them, and 1 where no row remains.
+-- Assumes nothing.
 use mathlib.Core.Path.{_≡_, refl, sym, ap, _∙_}
 use mathlib.Core.List.{List}
 use Prim.Native.Nat.{ℕ, zero, suc, _+_, _-_, _*_, _≤_, _<_}

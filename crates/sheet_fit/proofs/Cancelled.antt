@@ -1,11 +1,16 @@
--- Two sheets that agree in all but the features of cancelled rows have one text, and so has one without these rows. Assumes nothing.
-use mathlib.Core.Path.{_≡_, refl, ap}
+-- Two sheets that agree in all but the features of cancelled rows have one text; so have a sheet of at most 256 rows and the one without those of them that are
+-- cancelled. Assumes nothing.
+use mathlib.Core.Path.{_≡_, refl, sym, ap, _∙_}
+use mathlib.Core.Bool.{Bool, true, false, _&&_, cond}
 use mathlib.Core.List.{List}
-use Prim.Native.Nat.{ℕ, _*_, _≤_}
-use native.Mathlib.Nat.{mul-le-mul-right}
+use Prim.Native.Nat.{ℕ, _*_, _≤_, _<_}
+use native.Mathlib.Nat.{mul-le-mul, mul-le-mul-right}
+use native.Mathlib.Decide.{decLt}
 use native.Mathlib.Omega.{arith}
-use borrow.Author.Tests.{le-ltb, le-leb}
+use lib.Dec.{leb, ltb}
+use borrow.Author.Tests.{le-ltb, le-leb, lt-leb}
 use lib.ListN.{length}
+use Rattle.refusal.specs.declared.Refusal.the-variants.{TooLarge}
 use Rattle.sheet_header.specs.declared.Read.{Read}
 use Rattle.sheet_header.specs.declared.Read.the-variants.{Sheet, Refused}
 use Rattle.sheet_header.specs.Header.{row-bytes, headerOf, bodyOf, headerRead}
@@ -15,7 +20,7 @@ use Rattle.sheet.proofs.Remaining.{place-most}
 use Rattle.sheet.proofs.Laws.{rows-in, columns-in, BytesFine}
 use Rattle.sheet.proofs.Cancelled.{Dropped, columns, dropped-count, as-if-dropped}
 use Rattle.sheet.proofs.Cancelled.{Alike, same-header-read, same-count, cancelled-ignored}
-use Rattle.sheet_fit.specs.SheetFit.{readText, lentText, countedText, sizedText, headedText, sheetText}
+use Rattle.sheet_fit.specs.SheetFit.{refusalText, readText, lentText, countedText, sizedText, headedText, sheetText}
 
 module _ (b b′ : List ℕ) (a : Alike b b′) where
   counted : (r : Read) → countedText b r ≡ countedText b′ r
@@ -31,6 +36,17 @@ module _ (b b′ : List ℕ) (a : Alike b b′) where
   pub cancelled-unread : sheetText b ≡ sheetText b′
   unfolding sheetText
   cancelled-unread = rw (a .long, same-header-read b b′ a 32 8, headed (headerRead b′ 32 8))
+
+too-wide : (b : List ℕ) → BytesFine b → 16 < columns-in b → sheetText b ≡ refusalText TooLarge
+unfolding sheetText sizedText headerOf
+too-wide b w h = by-bytes (ltb 35878 (length b)) where
+  by-rows : (t : Bool) (x y : List ℕ) → cond (t && false) x y ≡ y
+  by-rows true x y = refl
+  by-rows false x y = refl
+
+  by-bytes : (t : Bool) → cond t (refusalText TooLarge) (headedText b (headerRead b 32 8)) ≡ refusalText TooLarge
+  by-bytes true = refl
+  by-bytes false = rw (headed-read b 32 8 refl (w .header)) (rw (lt-leb (columns-in b) 16 h) (by-rows (leb (rows-in b) 256) _ _))
 
 module _ (b b₀ : List ℕ) (a : Dropped b b₀) (w : BytesFine b) (w₀ : BytesFine b₀) where
   fewer : rows-in b₀ ≤ rows-in b
@@ -48,11 +64,18 @@ module _ (b b₀ : List ℕ) (a : Dropped b b₀) (w : BytesFine b) (w₀ : Byte
   lent (Refused r) = refl
   lent (Sheet h) = ap readText (as-if-dropped b b₀ a w w₀ 32 8 _ _)
 
-  -- the program takes both by their size, and prints the same
-  pub dropped-text : length b ≤ 35878 → rows-in b ≤ 256 → sheetText b ≡ sheetText b₀
+  -- more than 16 features are 16 in any case, and with fewer 256 rows have at most 35,878 bytes
+  pub dropped-text : rows-in b ≤ 256 → sheetText b ≡ sheetText b₀
   unfolding sheetText sizedText headerOf
-  dropped-text l n =
-      let l₀ : length b₀ ≤ 35878 = omega (arith, shorter) in
-      let n₀ : rows-in b₀ ≤ 256 = omega (arith, fewer) in
-      rw (le-ltb 35878 (length b) l, le-ltb 35878 (length b₀) l₀, headed-read b 32 8 refl (w .header), headed-read b₀ 32 8 refl (w₀ .header))
-      (rw (le-leb (rows-in b) 256 n, le-leb (rows-in b₀) 256 n₀, columns b b₀ a, dropped-count b b₀ a w w₀ 32 8, lent (rowsRead b₀ 32 8)))
+  dropped-text n = go (decLt 16 (columns-in b)) where
+    n₀ : rows-in b₀ ≤ 256
+    n₀ = omega (arith, fewer)
+
+    go : Dec (16 < columns-in b) → sheetText b ≡ sheetText b₀
+    go (yes h) = too-wide b w h ∙ sym (too-wide b₀ w₀ (rw (columns b b₀ a) at h))
+    go (no h) =
+        let f : row-bytes (columns-in b) ≤ 140 = omega (arith, h) in
+        let l : length b ≤ 35878 = omega (arith, mul-le-mul n f, w .header .measured .rest, w .header .measured .formula) in
+        let l₀ : length b₀ ≤ 35878 = omega (arith, shorter) in
+        rw (le-ltb 35878 (length b) l, le-ltb 35878 (length b₀) l₀, headed-read b 32 8 refl (w .header), headed-read b₀ 32 8 refl (w₀ .header))
+        (rw (le-leb (rows-in b) 256 n, le-leb (rows-in b₀) 256 n₀, columns b b₀ a, dropped-count b b₀ a w w₀ 32 8, lent (rowsRead b₀ 32 8)))

@@ -53,7 +53,7 @@ pub fn read_header(b: &[u8], rows: usize, cols: usize) -> Read
     Read::Sheet(header_of(body, two_bytes(body, N_AT), rows, cols))
 }
 
-// ---- the refusals; from `body_check` on every b is a body
+// ---- the refusals; in `body_check` and `header_of` b is a body
 
 // Refusals 11 to 13. Fewer than five bytes are refused for their length, before the version is read.
 pub fn header_check(b: &[u8]) -> Checked

@@ -1,4 +1,4 @@
--- `sheet::fill_row` meets its contract: a row that uncancelled is written whole at its place. Assumes nothing.
+-- `sheet::fill_row` meets its contract: a row that remains is written whole at its place. Assumes nothing.
 use mathlib.Core.Path.{_≡_, refl, sym, _∙_}
 use mathlib.Core.Bool.{false}
 use native.Mathlib.Omega.{arith}

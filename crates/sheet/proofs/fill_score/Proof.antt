@@ -1,4 +1,4 @@
--- `sheet::fill_score` meets its contract: the score of a row that uncancelled is written at its place. Assumes nothing.
+-- `sheet::fill_score` meets its contract: the score of a row that remains is written at its place. Assumes nothing.
 use mathlib.Core.Path.{_≡_, refl, sym, _∙_}
 use mathlib.Core.Bool.{false}
 use native.Mathlib.Omega.{arith}
