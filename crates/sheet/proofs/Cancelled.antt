@@ -47,6 +47,17 @@ none-remains b R C x y c w h =
     let e : rows-left b ≡ 0 = ap length (none-remain (bodyOf b) (columns-in b) (rows-in b) (λ i l. eq-eqb _ 0 (h i l))) in
     first-refusal b R C x y c (size w (λ (z : InSize (rows-left b) (columns-in b)). omega (arith, z .some-rows)))
 
+-- two sheets with one count, one matrix and the same targets have one outcome
+one-outcome : (b b′ : List ℕ) (R C : ℕ) → rowsRead b R C ≡ rowsRead b′ R C
+    → matrixOf (bodyOf b) (rows-in b) (columns-in b) ≡ matrixOf (bodyOf b′) (rows-in b′) (columns-in b′)
+    → targetsOf (bodyOf b) (rows-in b) (columns-in b) ≡ targetsOf (bodyOf b′) (rows-in b′) (columns-in b′)
+    → (x y : List Float) → sheetOf b R C x y ≡ sheetOf b′ R C x y
+unfolding sheetOf bodyRead
+one-outcome b b′ R C e m t x y = rw e (go (rowsRead b′ R C)) where
+  go : (o : Read) → byCount o (bodyOf b) x y ≡ byCount o (bodyOf b′) x y
+  go (Refused r) = refl
+  go (Sheet h) = rw (m, t)
+
 -- ---- a sheet, and one that has those of its rows alone that remain
 
 pub record Dropped (b b₀ : List ℕ) : Type 0 where
@@ -78,21 +89,13 @@ module _ (b b₀ : List ℕ) (a : Dropped b b₀) where
       rw (← columns, whole .1, whole .2, a .rows)
       (grid-ext _ _ (rows-in b₀) (columns-in b) (λ k j l m. sym (a .features k j l m)), tab-ext _ _ (rows-in b₀) (λ k l. sym (a .scores k l)))
 
-  same-body-of : (h : Header) (x y : List Float) → bodyRead (bodyOf b) h x y ≡ bodyRead (bodyOf b₀) h x y
-  unfolding bodyRead
-  same-body-of h x y = rw (same-numbers .0, same-numbers .1)
-
   -- where neither is refused by its bytes, they have one count and one outcome
   module _ (w : BytesFine b) (w₀ : BytesFine b₀) (R C : ℕ) where
     pub dropped-count : rowsRead b R C ≡ rowsRead b₀ R C
     dropped-count = rw (counts-remaining b R C refl w, counts-remaining b₀ R C refl w₀, a .rows, whole .0, a .header (rows-in b₀) R C)
 
     pub as-if-dropped : (x y : List Float) → sheetOf b R C x y ≡ sheetOf b₀ R C x y
-    unfolding sheetOf
-    as-if-dropped x y = rw dropped-count (go (rowsRead b₀ R C)) where
-      go : (o : Read) → byCount o (bodyOf b) x y ≡ byCount o (bodyOf b₀) x y
-      go (Refused r) = refl
-      go (Sheet h) = same-body-of h x y
+    as-if-dropped = one-outcome b b₀ R C dropped-count (same-numbers .0) (same-numbers .1)
 
 -- ---- two sheets that agree in length, header, claims, scores and the features of the rows that remain
 
@@ -155,20 +158,16 @@ module _ (b b′ : List ℕ) (a : Alike b b′) where
   same-left : remaining (bodyOf b) p n ≡ remaining (bodyOf b′) p n
   same-left = same-remain (bodyOf b) (bodyOf b′) p n (a .targets)
 
-  same-matrix : matrixOf (bodyOf b) n p ≡ matrixOf (bodyOf b′) n p
+  same-matrix : matrixOf (bodyOf b) n p ≡ matrixOf (bodyOf b′) (rows-in b′) (columns-in b′)
   unfolding matrixOf
   same-matrix =
-      rw (← same-left) (grid-ext _ _ _ p (λ i j l m.
+      rw (← field 0 2 (omega arith), ← field 2 2 (omega arith), ← same-left) (grid-ext _ _ _ p (λ i j l m.
       let k = uncancelled (bodyOf b) p n i l in
       a .features _ j (k .0) m (eqb-false _ 0 (k .1))))
 
-  same-targets : targetsOf (bodyOf b) n p ≡ targetsOf (bodyOf b′) n p
+  same-targets : targetsOf (bodyOf b) n p ≡ targetsOf (bodyOf b′) (rows-in b′) (columns-in b′)
   unfolding targetsOf
-  same-targets = rw (← same-left) (tab-ext _ _ _ (λ i l. rw (a .scores _ (uncancelled (bodyOf b) p n i l .0))))
-
-  same-body : (h : Header) (x y : List Float) → bodyRead (bodyOf b) h x y ≡ bodyRead (bodyOf b′) h x y
-  unfolding bodyRead
-  same-body h x y = rw (← field 0 2 (omega arith), ← field 2 2 (omega arith), same-matrix, same-targets)
+  same-targets = rw (← field 0 2 (omega arith), ← field 2 2 (omega arith), ← same-left) (tab-ext _ _ _ (λ i l. rw (a .scores _ (uncancelled (bodyOf b) p n i l .0))))
 
   -- they have one header, one count and one outcome
   pub same-header-read : (R C : ℕ) → headerRead b R C ≡ headerRead b′ R C
@@ -181,8 +180,4 @@ module _ (b b′ : List ℕ) (a : Alike b b′) where
       rw (same-check, ← field 0 2 (omega arith), ← field 2 2 (omega arith), ← same-left, same-header (rows-left b) R C, same-rows n 0 (omega arith))
 
   pub cancelled-ignored : (R C : ℕ) (x y : List Float) → sheetOf b R C x y ≡ sheetOf b′ R C x y
-  unfolding sheetOf
-  cancelled-ignored R C x y = rw (same-count R C) (go (rowsRead b′ R C)) where
-    go : (o : Read) → byCount o (bodyOf b) x y ≡ byCount o (bodyOf b′) x y
-    go (Refused r) = refl
-    go (Sheet h) = same-body h x y
+  cancelled-ignored R C = one-outcome b b′ R C (same-count R C) same-matrix same-targets

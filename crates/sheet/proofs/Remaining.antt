@@ -99,6 +99,27 @@ module _ (b : List ℕ) (p : ℕ) where
       ∙ ap (λ (k : ℕ). getD (remaining b p i ++ (i ∷ [])) k 0) (sym (add-zero (place i)))
       ∙ getD-append-add (remaining b p i) (i ∷ []) 0 0
 
+  -- what remains is one of the rows, and not cancelled
+  abbrev Uncancelled : ℕ → ℕ → Type 0
+  Uncancelled n k = (getD (remaining b p n) k 0 < n) × (cancelled b p (getD (remaining b p n) k 0) ≡ false)
+
+  pub uncancelled : (n k : ℕ) → k < place n → Uncancelled n k
+  unfolding remaining
+  uncancelled zero k h = absurd (omega arith)
+  uncancelled (suc n) k h = go (decLt k (place n)) (cancelled b p n) refl (uncancelled n k) where
+    more : place (suc n) ≡ place (n + 1)
+    more = ap place (sym (add-one n))
+
+    go : Dec (k < place n) → (t : Bool) → cancelled b p n ≡ t → (k < place n → Uncancelled n k) → Uncancelled (suc n) k
+    go (yes l) t e rec =
+        let r = rec l in
+        rw (stays n k l) (omega (arith, r .0), r .1)
+    go (no l) true e rec = absurd (omega (arith, l, h, more, place-next n true e))
+    go (no l) false e rec =
+        let m : k ≡ place n = omega (arith, l, h, more, place-next n false e) in
+        let s : getD (remaining b p (suc n)) k 0 ≡ n = rw m (stands-there n (suc n) (le-refl (suc n)) e) in
+        rw s (le-refl (suc n), e)
+
   -- ---- none cancelled, or all
 
   pub all-remain : (n : ℕ) → ((i : ℕ) → i < n → cancelled b p i ≡ false) → remaining b p n ≡ tab (λ i. i) n
@@ -116,25 +137,3 @@ pub same-remain : (b b′ : List ℕ) (p n : ℕ) → ((i : ℕ) → i < n → t
 unfolding remaining
 same-remain b b′ p zero h = refl
 same-remain b b′ p (suc n) h = rw (h n (le-refl (suc n)), same-remain b b′ p n (λ i l. h i (omega arith)))
-
--- what remains is one of the rows, and not cancelled
-module _ (b : List ℕ) (p : ℕ) where
-  abbrev Uncancelled : ℕ → ℕ → Type 0
-  Uncancelled n k = (getD (remaining b p n) k 0 < n) × (cancelled b p (getD (remaining b p n) k 0) ≡ false)
-
-  pub uncancelled : (n k : ℕ) → k < place b p n → Uncancelled n k
-  unfolding remaining
-  uncancelled zero k h = absurd (omega arith)
-  uncancelled (suc n) k h = go (decLt k (place b p n)) (cancelled b p n) refl (uncancelled n k) where
-    more : place b p (suc n) ≡ place b p (n + 1)
-    more = ap (place b p) (sym (add-one n))
-
-    go : Dec (k < place b p n) → (t : Bool) → cancelled b p n ≡ t → (k < place b p n → Uncancelled n k) → Uncancelled (suc n) k
-    go (yes l) t e rec =
-        let r = rec l in
-        rw (stays b p n k l) (omega (arith, r .0), r .1)
-    go (no l) true e rec = absurd (omega (arith, l, h, more, place-next b p n true e))
-    go (no l) false e rec =
-        let m : k ≡ place b p n = omega (arith, l, h, more, place-next b p n false e) in
-        let s : getD (remaining b p (suc n)) k 0 ≡ n = rw m (stands-there b p n (suc n) (le-refl (suc n)) e) in
-        rw s (le-refl (suc n), e)

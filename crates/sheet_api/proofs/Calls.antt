@@ -86,7 +86,7 @@ count-shut (Sheet h) b x y =
     room-shut (inSize n p) (eqb (length x) (n * p) && eqb (length y) n) (eqb 0 (n * p) && eqb 0 n) x y _ _ h (no-room n p)
 
 -- it is refused with 2 at the latest
-pub shut : (b : List ℕ) (R C : ℕ) (x y : List Float) → unread (answerIn (sheetOf b R C x y)) ≡ answerIn (sheetOf b R C [] [])
+shut : (b : List ℕ) (R C : ℕ) (x y : List Float) → unread (answerIn (sheetOf b R C x y)) ≡ answerIn (sheetOf b R C [] [])
 unfolding sheetOf
 shut b R C x y = count-shut (rowsRead b R C) (bodyOf b) x y
 

@@ -10,28 +10,30 @@ use native.Mathlib.Omega.{arith}
 use lib.Dec.{leb, ltb}
 use borrow.Author.Tests.{le-ltb, le-leb, lt-leb}
 use lib.ListN.{length}
+use lib.Ieee.{Float}
 use Rattle.refusal.specs.declared.Refusal.the-variants.{TooLarge}
 use Rattle.sheet_header.specs.declared.Read.{Read}
 use Rattle.sheet_header.specs.declared.Read.the-variants.{Sheet, Refused}
 use Rattle.sheet_header.specs.Header.{row-bytes, headerOf, bodyOf, headerRead}
 use Rattle.sheet_header.proofs.Laws.{headed-read}
-use Rattle.sheet.specs.Sheet.{rowsRead}
+use Rattle.sheet.specs.Sheet.{rowsRead, sheetOf}
 use Rattle.sheet.proofs.Remaining.{place-most}
 use Rattle.sheet.proofs.Laws.{rows-in, columns-in, BytesFine}
 use Rattle.sheet.proofs.Cancelled.{Dropped, columns, dropped-count, as-if-dropped}
 use Rattle.sheet.proofs.Cancelled.{Alike, same-header-read, same-count, cancelled-ignored}
 use Rattle.sheet_fit.specs.SheetFit.{refusalText, readText, lentText, countedText, sizedText, headedText, sheetText}
 
-module _ (b b′ : List ℕ) (a : Alike b b′) where
-  counted : (r : Read) → countedText b r ≡ countedText b′ r
-  unfolding lentText
-  counted (Refused r) = refl
-  counted (Sheet h) = ap readText (cancelled-ignored b b′ a 32 8 _ _)
+-- sheets with one outcome
+counted : (b b′ : List ℕ) → ((x y : List Float) → sheetOf b 32 8 x y ≡ sheetOf b′ 32 8 x y) → (r : Read) → countedText b r ≡ countedText b′ r
+unfolding lentText
+counted b b′ e (Refused r) = refl
+counted b b′ e (Sheet h) = ap readText (e _ _)
 
+module _ (b b′ : List ℕ) (a : Alike b b′) where
   headed : (r : Read) → headedText b r ≡ headedText b′ r
   unfolding sizedText
   headed (Refused r) = refl
-  headed (Sheet h) = rw (same-count b b′ a 32 8, counted (rowsRead b′ 32 8))
+  headed (Sheet h) = rw (same-count b b′ a 32 8, counted b b′ (cancelled-ignored b b′ a 32 8) (rowsRead b′ 32 8))
 
   pub cancelled-unread : sheetText b ≡ sheetText b′
   unfolding sheetText
@@ -59,11 +61,6 @@ module _ (b b₀ : List ℕ) (a : Dropped b b₀) (w : BytesFine b) (w₀ : Byte
       let l : rows-in b₀ * row-bytes (columns-in b₀) ≤ rows-in b * row-bytes (columns-in b) = rw (← columns b b₀ a) (mul-le-mul-right (row-bytes (columns-in b)) fewer) in
       omega (arith, l, m .rest, m .formula, m₀ .rest, m₀ .formula)
 
-  lent : (r : Read) → countedText b r ≡ countedText b₀ r
-  unfolding lentText
-  lent (Refused r) = refl
-  lent (Sheet h) = ap readText (as-if-dropped b b₀ a w w₀ 32 8 _ _)
-
   -- more than 16 features are 16 in any case, and with fewer 256 rows have at most 35,878 bytes
   pub dropped-text : rows-in b ≤ 256 → sheetText b ≡ sheetText b₀
   unfolding sheetText sizedText headerOf
@@ -78,4 +75,4 @@ module _ (b b₀ : List ℕ) (a : Dropped b b₀) (w : BytesFine b) (w₀ : Byte
         let l : length b ≤ 35878 = omega (arith, mul-le-mul n f, w .header .measured .rest, w .header .measured .formula) in
         let l₀ : length b₀ ≤ 35878 = omega (arith, shorter) in
         rw (le-ltb 35878 (length b) l, le-ltb 35878 (length b₀) l₀, headed-read b 32 8 refl (w .header), headed-read b₀ 32 8 refl (w₀ .header))
-        (rw (le-leb (rows-in b) 256 n, le-leb (rows-in b₀) 256 n₀, columns b b₀ a, dropped-count b b₀ a w w₀ 32 8, lent (rowsRead b₀ 32 8)))
+        (rw (le-leb (rows-in b) 256 n, le-leb (rows-in b₀) 256 n₀, columns b b₀ a, dropped-count b b₀ a w w₀ 32 8, counted b b₀ (as-if-dropped b b₀ a w w₀ 32 8) (rowsRead b₀ 32 8)))

@@ -37,22 +37,25 @@ module _ (b : List ℕ) where
       let t = header-told h in
       ap said (c ∙ sym (header-refused b R C (headerCheck b) refl (t .1))) ∙ t .2
 
+  abbrev Told : Type 0
+  Told = Headed b ⊎ ((k : ℕ) × (i : ℕ) × HeaderRefusal k i)
+
   -- every sheet is in one row of the table, or in none
   pub every-header : Headed b ⊎ ((k : ℕ) × (i : ℕ) × HeaderRefusal k i)
   every-header = begins (decLt (length b) 5) where
-    flagged : 5 ≤ length b → getD b 0 0 ≡ 1 → Measured b → Dec (3 < flagsOf (bodyOf b)) → Headed b ⊎ ((k : ℕ) × (i : ℕ) × HeaderRefusal k i)
+    flagged : 5 ≤ length b → getD b 0 0 ≡ 1 → Measured b → Dec (3 < flagsOf (bodyOf b)) → Told
     flagged s v m (yes g) = inr (13, 0, flags s v m g)
     flagged s v m (no g) = inl (record { begun = s; version = v; measured = m; flags = omega (arith, g) })
 
-    measures : 5 ≤ length b → getD b 0 0 ≡ 1 → Dec (Measured b) → Headed b ⊎ ((k : ℕ) × (i : ℕ) × HeaderRefusal k i)
+    measures : 5 ≤ length b → getD b 0 0 ≡ 1 → Dec (Measured b) → Told
     measures s v (yes m) = flagged s v m (decLt 3 (flagsOf (bodyOf b)))
     measures s v (no m) = inr (12, 0, measure s v m)
 
-    versions : 5 ≤ length b → Dec (getD b 0 0 ≡ 1) → Headed b ⊎ ((k : ℕ) × (i : ℕ) × HeaderRefusal k i)
+    versions : 5 ≤ length b → Dec (getD b 0 0 ≡ 1) → Told
     versions s (yes v) = measures s v (measured-known b)
     versions s (no v) = inr (11, 0, version s v)
 
-    begins : Dec (length b < 5) → Headed b ⊎ ((k : ℕ) × (i : ℕ) × HeaderRefusal k i)
+    begins : Dec (length b < 5) → Told
     begins (yes h) = inr (12, 0, short h)
     begins (no h) = versions (omega (arith, h)) (ℕ-discrete (getD b 0 0) 1)
 
