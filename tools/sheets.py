@@ -1,4 +1,5 @@
-"""Training sheets: comma files read, sheets written and read, and their refusals in order, a second time and apart from the proved reader."""
+"""Training sheets: comma files read, sheets written, read and moved between their versions, and the refusals in order, a second time and apart from the proved
+code."""
 import itertools
 import math
 import os
@@ -7,12 +8,13 @@ import struct
 import sys
 from collections import namedtuple
 
-VERSION = 1
-HEADER = struct.Struct(">HHdddIB")
+BODY = {1: 5, 2: 9}  # where the body begins in each version: behind the length, and in version 2 behind the family number too
+HEADER = struct.Struct(">HHdddIB")  # the body up to its rows
+FOUR_BYTES = 0xFFFFFFFF  # the largest length, and the largest family number
 NORMALISE, LAZY = 1, 2
 CANCELLED = 0  # as the target of a row, which then has no score and no place in the matrix
 FIT_ROWS, FIT_FEATURES = 4096, 64
-PROGRAM_ROWS, PROGRAM_FEATURES, PROGRAM_BYTES = 256, 16, 35878
+PROGRAM_ROWS, PROGRAM_FEATURES, PROGRAM_BYTES = 256, 16, 35882
 SHOWN_FAULTS = 20
 
 # Low, high and the words for both. The largest finite number as tol's bound says finite.
@@ -35,7 +37,7 @@ MEANINGS = {
     8: "the solver's tolerance came out at or below 0",
     9: "the paused record is impossible, or its fit has already ended",
     10: "the solver alone was called with limit 0",
-    11: "the sheet's version is not 1",
+    11: "the sheet's version is neither 1 nor 2",
     12: "the sheet's length is wrong; the file is cut, too long or no sheet",
     13: "the sheet's flags are above 3",
     14: "row {k} (from 0, cancelled rows counted) has a source outside 1 to 999, a target outside 0 to 999, or target 0 (cancelled) with a score",
@@ -106,6 +108,14 @@ def claim(text, also=""):
     return int(text.lstrip("0"))
 
 
+def family_number(text):
+    """Digits are counted first, as of a claim number."""
+    digits = text.lstrip("0") or "0"
+    if not re.fullmatch("[0-9]+", text) or len(digits) > 10 or int(digits) > FOUR_BYTES:
+        raise ValueError(f"{quoted(text)} is not a family number, a whole number from 0 to {FOUR_BYTES:,}")
+    return int(digits)
+
+
 def target_claim(text):
     return CANCELLED if re.fullmatch("0+", text) else claim(text, ", or 0 for a cancelled claim")
 
@@ -132,7 +142,7 @@ def lines_of(path):
     """The lines without their ends. The mark that some spreadsheets put in front and empty lines at the end are skipped."""
     with open(path, "rb") as file:
         data = file.read()
-    if data[:1] == bytes([VERSION]):
+    if data and data[0] in BODY:
         raise fault(f"{path}:1", 1, "this looks like a training sheet; the comma file comes first, then the sheet")
     try:
         lines = data.decode("utf-8-sig").split("\n")
@@ -223,11 +233,16 @@ def rows_of(path, lines, p):
 
 # Sheets: writing.
 
-def sheet_bytes(p, rows, settings):
+def front(size, family=None):
+    """What stands before a body of so many bytes: of version 1, or with a family number of version 2."""
+    return struct.pack(">BI", 1, size) if family is None else struct.pack(">BII", 2, 4 + size, family)
+
+
+def sheet_bytes(p, rows, settings, family=None):
     size = HEADER.size + len(rows) * (12 + 8 * p)
-    if size > 0xFFFFFFFF:
+    if size + 4 * (family is not None) > FOUR_BYTES:
         raise Fault(f"{counted(len(rows), 'row')} of {counted(p, 'feature')} are more than a sheet's length field can say")
-    parts = [struct.pack(">BI", VERSION, size), HEADER.pack(len(rows), p, *settings)]
+    parts = [front(size, family), HEADER.pack(len(rows), p, *settings)]
     parts += [struct.pack(f">HH{p + 1}d", row.source, row.target, *row.features, row.score) for row in rows]
     return b"".join(parts)
 
@@ -252,24 +267,33 @@ def write(path, data):
 
 # Sheets: reading. Each generator yields refusals in their order. Only the first is taken, so a check may rely on those above it.
 
-def frame_refusals(data):
-    """All before the rows."""
+def wrong_version(data, versions):
+    """In words, with what the file may be. Another of the two versions is wrong only in a move."""
+    due = "neither 1 nor 2" if len(versions) == 2 else f"not {versions[0]}"
+    commas = "; this looks like a comma file, and 'tools/sheet make' makes a sheet of it" if b"source" in data[:9] else ""
+    hint = {1: "; the sheet has no family number", 2: "; the sheet has a family number already"}.get(data[0], commas)
+    return f"the version byte is {data[0]}, {due}{hint}"
+
+
+def frame_refusals(data, versions):
+    """All before the rows, where these versions are taken."""
     if len(data) < 5:
         yield Refusal(12, 0, f"the file has {counted(len(data), 'byte')}; a sheet begins with a version byte and a length of 4 bytes")
-    if data[0] != VERSION:
-        hint = "; this looks like a comma file, and 'tools/sheet make' makes a sheet of it" if b"source" in data[:9] else ""
-        yield Refusal(11, 0, f"the version byte is {data[0]}, not {VERSION}{hint}")
+    if data[0] not in versions:
+        yield Refusal(11, 0, wrong_version(data, versions))
     length, after = int.from_bytes(data[1:5], "big"), len(data) - 5
     if length != after:
         yield Refusal(12, 0, f"the length field says {length:,}, but {counted(after, 'byte')} follow it")
-    if length < HEADER.size:
-        yield Refusal(12, 0, f"the length is {length}, but the fields before the rows take {HEADER.size} bytes")
-    n, p = struct.unpack_from(">HH", data, 5)
-    due = HEADER.size + n * (12 + 8 * p)
+    start = BODY[data[0]]
+    fixed = start - 5 + HEADER.size
+    if length < fixed:
+        yield Refusal(12, 0, f"the length is {length}, but the fields before the rows take {fixed} bytes")
+    n, p, *_, flags = HEADER.unpack_from(data, start)
+    due = fixed + n * (12 + 8 * p)
     if length != due:
         yield Refusal(12, 0, f"{counted(n, 'row')} of {counted(p, 'feature')} need a length of {due:,}, but it is {length:,}")
-    if data[37] > NORMALISE + LAZY:
-        yield Refusal(13, 0, f"the flags are {data[37]}; known are 1 (normalise), 2 (lazy) and 3 (both)")
+    if flags > NORMALISE + LAZY:
+        yield Refusal(13, 0, f"the flags are {flags}; known are 1 (normalise), 2 (lazy) and 3 (both)")
 
 
 def pair_refusals(rows):
@@ -288,11 +312,11 @@ def pair_refusals(rows):
         before = pair
 
 
-def reader_refusals(data, program):
+def reader_refusals(data, program, versions=tuple(BODY)):
     """Those of the reader; a program's reader has 16 too, which depends on the program's memory. 16 counts all rows, 1 those that remain."""
     if program and len(data) > PROGRAM_BYTES:
         yield Refusal(16, 0, f"the sheet has {len(data):,} bytes; claimfit takes at most {PROGRAM_BYTES:,}")
-    yield from frame_refusals(data)
+    yield from frame_refusals(data, versions)
     n, p, _, rows = parsed(data)
     size = f"the sheet has {counted_rows(rows)} and {counted(p, 'feature')}"
     if program and (n > PROGRAM_ROWS or p > PROGRAM_FEATURES):
@@ -300,6 +324,11 @@ def reader_refusals(data, program):
     yield from pair_refusals(rows)
     if not (1 <= len(remaining(rows)) <= FIT_ROWS and 1 <= p <= FIT_FEATURES):
         yield Refusal(1, 0, f"{size}; a fit takes 1 to {FIT_ROWS:,} rows that are not cancelled and 1 to {FIT_FEATURES} features")
+
+
+def move_refusals(data, version):
+    """Those of a move that starts from this version: the reader's, with 11 for any other version."""
+    yield from reader_refusals(data, False, (version,))
 
 
 def fit_refusals(data):
@@ -336,9 +365,28 @@ def said(refusal):
     return f"refused {refusal.number} at {refusal.place}: {refusal.why}"
 
 
+def family_of(data):
+    """Of a sheet whose frame is sound; version 1 has none."""
+    return int.from_bytes(data[5:9], "big") if data[0] == 2 else None
+
+
 def parsed(data):
     """n, p, settings and rows of a sheet whose frame is sound."""
-    n, p, *settings = HEADER.unpack_from(data, 5)
+    start = BODY[data[0]]
+    n, p, *settings = HEADER.unpack_from(data, start)
     form = struct.Struct(f">HH{p + 1}d")
-    found = [form.unpack_from(data, 5 + HEADER.size + i * form.size) for i in range(n)]
+    found = [form.unpack_from(data, start + HEADER.size + i * form.size) for i in range(n)]
     return n, p, Settings(*settings), [Row(source, target, numbers[:-1], numbers[-1]) for source, target, *numbers in found]
+
+
+# Sheets: moves, of those without a refusal. The body is copied and never read as numbers, so that NaNs keep their bits.
+
+def moved_up(data, family):
+    body = data[BODY[1]:]
+    return front(len(body), family) + body
+
+
+def moved_down(data):
+    """The sheet in version 1, and the family number that it had."""
+    body = data[BODY[2]:]
+    return front(len(body)) + body, family_of(data)

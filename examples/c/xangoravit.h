@@ -1,4 +1,4 @@
-/* The calls of Xangoravit for C: a training sheet's reader (crate sheet_api) and the fit (crate c_api).
+/* The calls of Xangoravit for C: a training sheet's reader, writer and moves (crate sheet_api) and the fit (crate c_api).
 
    A slice is passed as a pointer and the number of its elements. The memory is the caller's: no call keeps a pointer or
    allocates. Slices of one call must not overlap, and each must hold the number of elements that is passed for it; the
@@ -8,12 +8,21 @@
    xangoravit_solve to 64) or p not from 1 to 64 is refused with 1 (but by xangoravit_read_header and
    xangoravit_count_rows, which ask only for bytes); then a slice of the wrong length with 2, whether of doubles or of
    words, the scratch excepted: one that is too short is 4, and a longer one will do. What is wrong with a sheet's bytes,
-   11 to 15, comes before 1 and 2. An answer that has its 7 words is written with every refusal. Nothing else is, but a
-   sheet's place, and what a fit writes that 7 or 8 ends.
+   11 to 15, comes before 1 and 2: 12 where there are not 5 bytes, 11, 12, 13, then row by row 14 and 15. An answer that has
+   its 7 words is written with every refusal. Nothing else is, but a sheet's place, and what a fit writes that 7 or 8 ends.
+
+   Four calls write a sheet: xangoravit_write_sheet_1 and _2, xangoravit_move_up and xangoravit_move_down. An output that is
+   too short for it is refused with 2 ahead of all else; a longer one will do, and what is behind the sheet stays as it was.
+   Then a writer refuses with 1, 2 and 3, and row by row with 14 and 15; a move with 11 to 15, then 1, and 2 for its words.
+
+   A sheet has version 1 or 2. Version 2 has the number of a patent family in 4 bytes behind its length, and is otherwise
+   version 1. The three calls that read a sheet take both, and the family is in none of their words. A move starts from one
+   version, and refuses the other with 11.
 
    A sheet's row with target claim 0 is cancelled: the bits of its score are 0 (else 14), its features may be anything, and
-   it is no row of the matrix. The place of 14 and 15 is a row of the sheet, cancelled ones counted. Every n but that of
-   xangoravit_read_header counts the rows that remain, and so do the places of 5.
+   it is no row of the matrix. The place of 14 and 15 is a row of the sheet, cancelled ones counted. The n of
+   xangoravit_read_header and of the writers is of all rows; every other n counts the rows that remain, and so do the places
+   of 5.
 
    A word that holds a double holds its bits (copy them with memcpy). */
 #ifndef XANGORAVIT_H
@@ -41,6 +50,9 @@ enum {
 
 /* Header of a sheet, 10 words: n and p, then the settings' 8 words, so that `header + XANGORAVIT_FROM` are settings. */
 enum { XANGORAVIT_N, XANGORAVIT_P, XANGORAVIT_FROM, XANGORAVIT_HEADER = XANGORAVIT_FROM + XANGORAVIT_SETTINGS };
+
+/* Words of a move, 2: how many bytes the moved sheet has, and the family, which a move down has taken out of it. */
+enum { XANGORAVIT_MOVED_BYTES, XANGORAVIT_MOVED_FAMILY, XANGORAVIT_MOVED };
 
 /* Record of a fit between its calls, 16 words: stage (0 opening, 1 solving, 2 searching, 3 ended), the stage's index,
    round, the three counts, the bits of nine doubles, and whether a solve has missed its tolerance. Keep it with the
@@ -86,6 +98,37 @@ uint64_t xangoravit_count_rows(const uint8_t *bytes, size_t bytes_length, size_t
 uint64_t xangoravit_read_sheet(const uint8_t *bytes, size_t bytes_length, size_t rows, size_t cols,
                                double *x, size_t x_length, double *y, size_t y_length,
                                uint64_t *header, size_t header_length, uint64_t *place, size_t place_length);
+
+/* Writes a sheet of version 1, of 38 + n * (12 + 8 * p) bytes. Row i has the claims sources[i] and targets[i], the p
+   features from x[i * p] on and the score y[i]; n counts all rows, cancelled ones too. The score of a row with target 0
+   has all bits 0, else it is 14; features and all other scores may be anything, and a NaN is written as 7ff8000000000000.
+   R and C are checked as a fit's, but are not in a sheet. Rows that are all cancelled are written as well, although
+   reading them is refused with 1. Always writes the place's word, if there is one word: the refusal's, or 0; the output
+   only where it does not refuse. Refusals: 2 for an output that is too short, whatever n and p are; 1; 2 unless sources,
+   targets and y have n elements, x n * p, and settings and place their words; 3; then row by row 14 and 15. */
+uint64_t xangoravit_write_sheet_1(size_t n, size_t p, const uint64_t *settings, size_t settings_length,
+                                  const uint16_t *sources, size_t sources_length, const uint16_t *targets, size_t targets_length,
+                                  const double *x, size_t x_length, const double *y, size_t y_length,
+                                  uint8_t *out, size_t out_length, uint64_t *place, size_t place_length);
+
+/* The same for version 2, with the number of a family, which may be any: 42 + n * (12 + 8 * p) bytes. Refuses as version 1. */
+uint64_t xangoravit_write_sheet_2(uint32_t family, size_t n, size_t p, const uint64_t *settings, size_t settings_length,
+                                  const uint16_t *sources, size_t sources_length, const uint16_t *targets, size_t targets_length,
+                                  const double *x, size_t x_length, const double *y, size_t y_length,
+                                  uint8_t *out, size_t out_length, uint64_t *place, size_t place_length);
+
+/* Moves a sheet of version 1 up to version 2, with that family: 4 bytes more. All other bytes but version and length are
+   copied, whatever the pattern of a NaN. Always writes the place's word, if there is one word: the refusal's, or 0; output
+   and words of the move only where it does not refuse. Refusals: 2 where the output is shorter than bytes_length + 4, then
+   11 to 15; 1 as in reading, by the rows that remain; 2 for the words of move and place. */
+uint64_t xangoravit_move_up(const uint8_t *bytes, size_t bytes_length, uint32_t family, uint8_t *out, size_t out_length,
+                            uint64_t *moved, size_t moved_length, uint64_t *place, size_t place_length);
+
+/* Moves a sheet of version 2 down to version 1, and hands its family back: 4 bytes less. Down after up gives the old bytes,
+   and so does up after down with that family. Writes and refuses as xangoravit_move_up does; the output's due length is
+   bytes_length - 4, and 0 where there are fewer bytes. */
+uint64_t xangoravit_move_down(const uint8_t *bytes, size_t bytes_length, uint8_t *out, size_t out_length,
+                              uint64_t *moved, size_t moved_length, uint64_t *place, size_t place_length);
 
 /* The doubles of scratch that a fit needs: lend start and resume so many, or more, which are left alone. 0 where n, p or a
    setting is out of range, or the settings have not their 8 words: then no scratch will do, and a start says why. */

@@ -3,15 +3,17 @@
 
 #include "paper.h"
 
-enum { CLAIMS = 999, ALL_PAIRS = CLAIMS * CLAIMS, HEAD = 38 };
+enum { CLAIMS = 999, ALL_PAIRS = CLAIMS * CLAIMS, FLAGS = 32, BODY = 33 }; // flags are the last byte of the body's 33 in front of its rows
 
 static void put(uint8_t *to, u64 value, int count) {
     while (count--) to[count] = (uint8_t)value, value >>= 8;
 }
 
-static u64 size_of(u64 n, u64 p) { return HEAD + n * (12 + 8 * p); }
+static u64 size_of(const struct paper *a, u64 n, u64 p) { return a->head + n * (12 + 8 * p); }
 
-static uint8_t *row_of(struct paper *a, u64 i) { return a->bytes + size_of(i, a->p); }
+static uint8_t *body_of(struct paper *a) { return a->bytes + a->head - BODY; }
+
+static uint8_t *row_of(struct paper *a, u64 i) { return a->bytes + size_of(a, i, a->p); }
 
 static void put_length(struct paper *a) { put(a->bytes + 1, a->length - 5, 4); }
 
@@ -21,7 +23,20 @@ static void resize(struct paper *a, size_t to) {
     a->length = to;
 }
 
+static void put_sizes(struct paper *a, u64 n, u64 p) { put(body_of(a), n, 2), put(body_of(a) + 2, p, 2); }
+
 // ---- whole sheets
+
+uint32_t some_family(void) {
+    static const uint32_t apart[] = {0, 1, 256, UINT32_MAX};
+    return below(4) ? (uint32_t)word() : apart[below(4)];
+}
+
+static void of_version(struct paper *a, int version) {
+    a->head = version == 2 ? 42 : 38;
+    a->bytes[0] = (uint8_t)version;
+    if (version == 2) put(a->bytes + 5, some_family(), 4);
+}
 
 static void put_pair(uint8_t *row, u64 pair) { put(row, 1 + pair / CLAIMS, 2), put(row + 2, 1 + pair % CLAIMS, 2); }
 
@@ -39,13 +54,14 @@ static void write_rows(struct paper *a) {
 }
 
 static void write_sheet(struct paper *a, u64 n, u64 p) {
-    a->n = n, a->p = p, a->length = size_of(n, p);
-    a->bytes[0] = 1;
+    of_version(a, (int)between(1, 2));
+    a->n = n, a->p = p, a->length = size_of(a, n, p);
     put_length(a);
-    put(a->bytes + 5, n, 2), put(a->bytes + 7, p, 2);
-    for (int i = 0; i < 3; i++) put(a->bytes + 9 + 8 * i, any_float(), 8);
-    put(a->bytes + 33, beside(1000), 4);
-    a->bytes[37] = (uint8_t)below(4);
+    put_sizes(a, n, p);
+    uint8_t *body = body_of(a);
+    for (int i = 0; i < 3; i++) put(body + 4 + 8 * i, any_float(), 8);
+    put(body + 28, beside(1000), 4);
+    body[FLAGS] = (uint8_t)below(4);
     write_rows(a);
 }
 
@@ -109,8 +125,8 @@ static void whole(struct paper *a) {
 
 // Cut or longer; sometimes the length field agrees, so that only n and p tell.
 static void other_length(struct paper *a) {
-    static const size_t near[] = {0, 1, 4, 5, 6, 37, 38, 39};
-    size_t to = near[below(8)];
+    static const size_t near[] = {0, 1, 4, 5, 6, 9, 37, 38, 39, 41, 42, 43};
+    size_t to = near[below(12)];
     if (below(2)) to = below(a->length + 1);
     if (below(3) == 0) to = a->length + between(1, 40);
     if (below(4) == 0) to = below(2) ? a->length + 8 : a->length - (a->length ? 1 : 0);
@@ -122,14 +138,39 @@ static void other_length_field(struct paper *a) {
     u64 rest = a->length - 5;
     switch (below(8)) {
     case 0: rest = 0; break;
-    case 1: rest = 33; break;
+    case 1: rest = below(2) ? 33 : 37; break;
     case 2: rest = UINT32_MAX; break;
     case 3: rest ^= (u64)1 << below(32); break;
     case 4: rest = __builtin_bswap32((uint32_t)rest); break;
     case 5: rest = word(); break;
-    default: rest += below(2) ? 1 : -1;
+    default: rest += (below(2) ? 1 : -1) * (below(2) ? 1 : 4);
     }
     put(a->bytes + 1, rest, 4);
+}
+
+// The family's four bytes are put in or left out; the rows move with them, also such as were cut off.
+static void other_family(struct paper *a) {
+    u64 whole = size_of(a, a->n, a->p), end = whole > a->length ? whole : a->length;
+    if (a->length < 9) return;
+    if (a->head == 42) {
+        memmove(a->bytes + 5, a->bytes + 9, end - 9);
+        a->head -= 4, a->length -= 4;
+    } else {
+        memmove(a->bytes + 9, a->bytes + 5, end - 5);
+        put(a->bytes + 5, some_family(), 4);
+        a->head += 4, a->length += 4;
+    }
+}
+
+// Another version byte, or a family's bytes or the byte or both as of the other version; the length field follows or does not.
+static void other_version(struct paper *a) {
+    if (below(2)) {
+        a->bytes[0] = (uint8_t)(below(2) ? below(4) : word());
+        return;
+    }
+    if (below(3)) a->bytes[0] = 3 - a->bytes[0];
+    if (below(3)) other_family(a);
+    if (a->length >= 5 && below(2)) put_length(a);
 }
 
 // Another n or p; sometimes the length field or the length itself follows.
@@ -137,8 +178,8 @@ static void other_size(struct paper *a) {
     static const u64 odd[] = {0, 1, 64, 65, 255, 256, 4096, 4097, 32768, 65535};
     u64 sizes[] = {a->n, a->p}, which = below(2);
     sizes[which] = below(2) ? odd[below(10)] : below(2) ? sizes[which] + 1 : sizes[which] - 1;
-    put(a->bytes + 5 + 2 * which, sizes[which], 2);
-    u64 due = size_of(sizes[0] & 65535, sizes[1] & 65535);
+    put(body_of(a) + 2 * which, sizes[which], 2);
+    u64 due = size_of(a, sizes[0] & 65535, sizes[1] & 65535);
     if (below(2)) put(a->bytes + 1, due - 5, 4);
     if (below(2) && due <= MOST_BYTES) resize(a, due);
 }
@@ -201,7 +242,7 @@ static void other_number(struct paper *a) {
     static const u64 odd[] = {0x7ff0000000000000, 0xfff0000000000000, 0x7ff8000000000000, 0xfff8000000000000, 0x7ff0000000000001, 0xffffffffffffffff, 0xfff4000000000000};
     u64 value = below(2) ? odd[below(7)] : any_float();
     if (a->n && below(3)) put(row_of(a, below(a->n)) + 4 + 8 * below(a->p + 1), value, 8);
-    else put(a->bytes + 9 + 8 * below(3), value, 8);
+    else put(body_of(a) + 4 + 8 * below(3), value, 8);
 }
 
 static void damage(struct paper *a) {
@@ -209,10 +250,10 @@ static void damage(struct paper *a) {
     case 0: other_length(a); break;
     case 1: other_length_field(a); break;
     case 2: other_size(a); break;
-    case 3: a->bytes[0] = (uint8_t)(below(2) ? below(4) : word()); break;
-    case 4: a->bytes[37] = (uint8_t)(below(2) ? beside(3) : word()); break;
+    case 3: other_version(a); break;
+    case 4: body_of(a)[FLAGS] = (uint8_t)(below(2) ? beside(3) : word()); break;
     case 5: other_number(a); break;
-    case 6: a->bytes[below(HEAD)] ^= 1 << below(8); break;
+    case 6: a->bytes[below(a->head)] ^= 1 << below(8); break;
     case 7:
         if (a->length) a->bytes[below(a->length)] ^= 1 << below(8);
         break;
@@ -225,13 +266,15 @@ static void damage(struct paper *a) {
 // ---- other bytes
 
 static void random_bytes(struct paper *a) {
-    u64 n = below(4), p = below(4);
-    a->length = 0;
-    resize(a, below(2) ? size_of(n, p) : below(8) ? below(200) : below(4000));
-    if (below(4)) a->bytes[0] = 1;
+    a->n = below(4), a->p = below(4), a->length = 0;
+    resize(a, 4000);
+    uint8_t first = a->bytes[0];
+    of_version(a, (int)between(1, 2));
+    a->length = below(2) ? size_of(a, a->n, a->p) : below(8) ? below(200) : below(4000);
+    if (below(4) == 0) a->bytes[0] = first;
     if (below(4) && a->length >= 5) put_length(a);
-    if (below(4)) put(a->bytes + 5, n, 2), put(a->bytes + 7, p, 2);
-    if (below(2)) a->bytes[37] &= 3;
+    if (below(4)) put_sizes(a, a->n, a->p);
+    if (below(2)) body_of(a)[FLAGS] &= 3;
 }
 
 // n(12+8p) = 4n(3+2p) a little above a multiple of 2^32, and bytes as many as its low 32 bits say: who counts in these finds the length right.
@@ -243,9 +286,9 @@ static void wrapped(struct paper *a) {
         return;
     }
     write_sheet(a, between(1, 40), between(1, 9));
-    resize(a, HEAD + 4 * low);
+    resize(a, a->head + 4 * low);
     put_length(a);
-    put(a->bytes + 5, n, 2), put(a->bytes + 7, (product / n - 3) / 2, 2);
+    put_sizes(a, n, (product / n - 3) / 2);
 }
 
 void draw(struct paper *a) {

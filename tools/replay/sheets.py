@@ -1,6 +1,7 @@
 """Training sheets with the texts that they must give: the stored fits as sheets, with the stored answers; some of them once more with cancelled rows among
 their own, with the same answers; sheets at the edge of each refusal, also with two faults at once; document 01's sheet cut at every length. The last two kinds
-are answered here, by 01's order."""
+are answered here, by 01's order. Every sheet is made in both versions, from the same rows; of those that no version has, and of cut ones, each stands alone."""
+import functools
 import itertools
 import math
 import struct
@@ -10,9 +11,12 @@ from generate import Random
 from words import number
 
 NORMALISE, LAZY = 1, 2
-LIMIT = 35878
+LIMIT = 35882
+BODY = {1: 5, 2: 9}  # where it begins
+FIELD = 1 << 32  # 4 bytes hold less
 NAN, INF = math.nan, math.inf
 SEED, AGAIN = 3, 120  # of the cancelled rows that are mixed into stored fits; how many fits
+FAMILY_SEED = 4
 NOT_FINITE = (0x7ff8000000000000, 0xfff8000000000000, 0x7ff0000000000001, 0xffffffffffffffff, 0x7ff0000000000000, 0xfff0000000000000)
 
 
@@ -23,16 +27,33 @@ def packed(value):
     return struct.pack(">Q" if isinstance(value, int) else ">d", value)
 
 
-def sheet(rows, p=1, version=1, n=None, length=None, alpha=1.0, ratio=1.0, tol=0.5, rounds=0, flags=0):
-    """Rows are (source, target, features, score). A header that says something else than the rows is a fault on purpose."""
+def sheet(rows, p=1, version=1, family=None, n=None, off=0, length=None, alpha=1.0, ratio=1.0, tol=0.5, rounds=0, flags=0, more=0):
+    """Rows are (source, target, features, score). A header that says something else than the rows is a fault on purpose: so is a family in version 1 and none
+    in version 2. The length is off by so much, or is given; more bytes stand at the end than it counts, or fewer."""
+    front = b"" if family is None else struct.pack(">I", family)
+    head = struct.pack(">HH", len(rows) if n is None else n, p) + packed(alpha) + packed(ratio) + packed(tol) + struct.pack(">IB", rounds, flags)
     body = b"".join(struct.pack(">HH", s, t) + b"".join(map(packed, [*x, y])) for s, t, x, y in rows)
-    head = struct.pack(">HHdddIB", len(rows) if n is None else n, p, alpha, ratio, tol, rounds, flags)
-    size = len(head) + len(body) if length is None else length
-    return struct.pack(">BI", version, size) + head + body
+    rest = front + head + body
+    data = struct.pack(">BI", version, len(rest) + off if length is None else length) + rest
+    return data[:more] if more < 0 else data + bytes(more)
 
 
-def changed(data, at, new):
-    return data[:at] + new + data[at + len(new):]
+def zeros(version, size):
+    """The length alone is right."""
+    return struct.pack(">BI", version, size - 5) + bytes(size - 5)
+
+
+def some_family(r):
+    return r.pick([0, FIELD - 1, *(r.below(FIELD) for _ in range(6))])
+
+
+def draft(rows, **head):
+    """A sheet whose version, and then its family, are still to be given."""
+    return functools.partial(sheet, rows, **head)
+
+
+def in_both(r, make):
+    return make(version=1), make(version=2, family=some_family(r))
 
 
 def grown(n, p):
@@ -65,30 +86,45 @@ def struck(rows, i):
 
 # ---- answers by 01's order
 
-def length_refused(data):
-    n, p = struct.unpack_from(">HH", data.ljust(38, b"\0"), 5)
-    return len(data) < 38 or int.from_bytes(data[1:5], "big") != len(data) - 5 or len(data) != 38 + n * (12 + 8 * p)
+def sizes(data):
+    """n and p; 0 where a byte of them is missing."""
+    at = BODY[data[0]]
+    return struct.unpack_from(">HH", data.ljust(at + 4, b"\0"), at)
+
+
+def front_refusal(data, versions):
+    """11 to 13, where these versions are taken."""
+    if len(data) < 5:
+        return 12, 0
+    if data[0] not in versions:
+        return 11, 0
+    head, (n, p) = BODY[data[0]] + 33, sizes(data)
+    if len(data) < head or int.from_bytes(data[1:5], "big") != len(data) - 5 or len(data) != head + n * (12 + 8 * p):
+        return 12, 0
+    return (13, 0) if data[head - 1] > 3 else None
 
 
 def frame_refusal(data):
+    """The program's, before it reads the rows."""
     if len(data) > LIMIT:
         return 16, 0
-    if len(data) < 5:
-        return 12, 0
-    if data[0] != 1:
-        return 11, 0
-    if length_refused(data):
-        return 12, 0
-    if data[37] > 3:
-        return 13, 0
-    n, p = struct.unpack_from(">HH", data, 5)
+    refusal = front_refusal(data, (1, 2))
+    if refusal:
+        return refusal
+    n, p = sizes(data)
     return (16, 0) if n > 256 or p > 16 else None
 
 
+def rows_in(data):
+    """All rows of a sheet whose length is right: source, target, features, bits of the score."""
+    n, p = sizes(data)
+    return [struct.unpack_from(f">HH{p}dQ", data, BODY[data[0]] + 33 + i * (12 + 8 * p)) for i in range(n)]
+
+
 def row_refusal(rows):
-    """Of all rows, cancelled ones too, as (source, target, bits of the score)."""
+    """Of all rows, cancelled ones too."""
     before = (0, 0)
-    for i, (source, target, score) in enumerate(rows):
+    for i, (source, target, *_, score) in enumerate(rows):
         if not (1 <= source <= 999 and 0 <= target <= 999) or (target == 0 and score != 0):
             return 14, i
         if (source, target) <= before:
@@ -129,11 +165,11 @@ def answered(data):
     refusal = frame_refusal(data)
     if refusal:
         return refused_text(refusal)
-    n, p, *settings = struct.unpack_from(">HHdddIB", data, 5)
-    rows = [struct.unpack_from(f">HH{p}dQ", data, 38 + i * (12 + 8 * p)) for i in range(n)]
+    _, p, *settings = struct.unpack_from(">HHdddIB", data, BODY[data[0]])
+    rows = rows_in(data)
     left = [x for x in rows if x[1] != 0]
     matrix, scores = [x[2:-1] for x in left], [number(x[-1]) for x in left]
-    refusal = row_refusal([(*x[:2], x[-1]) for x in rows]) or start_refusal(settings, matrix, scores)
+    refusal = row_refusal(rows) or start_refusal(settings, matrix, scores)
     if refusal:
         return refused_text(refusal)
     assert settings[3] == 0
@@ -144,7 +180,7 @@ def answered(data):
 # ---- the sheets at the edges
 
 ROWS = [(1, 1, [1.0], 1.0), (3, 2, [2.0], 3.0)]
-P8 = sheet(ROWS)
+P8 = draft(ROWS)
 FOUR = grown(4, 3)
 MOST = grown(256, 16)
 # P8's sheet with a cancelled row between its two. Then four rows, with a cancelled one before the first and before the third.
@@ -152,149 +188,167 @@ THREE = [ROWS[0], gone(2), ROWS[1]]
 HOLES = struck(struck([(1 + i, 5, x, y) for i, (_, _, x, y) in enumerate(grown(6, 3))], 0), 3)
 
 
-def frames():
-    """11, 12, 13 and 16."""
-    for version in (0, 2, 255):
+def alone():
+    """11, 12 and 16 of what is no sheet of either version, and of a sheet whose version byte alone is that of the other."""
+    for version in (0, 3, 255):
         yield sheet(ROWS, version=version)
-    yield from (b"\0\0\0\0", b"\2\0\0\0\0", b"\1\0\0\0\0")
-    yield sheet(ROWS, version=2, length=0)
-    yield sheet(ROWS, version=2, flags=4)
-    for length in (0, 72, 74, 0x49000000, 0xFFFFFFFF):
-        yield sheet(ROWS, length=length)
-    yield P8 + b"\0"
-    yield changed(P8, 1, b"\0\0\0\x4a") + b"\0"
+        yield sheet(ROWS, version=version, family=7)
+    yield sheet(ROWS, version=0, length=0)
+    yield sheet(ROWS, version=3, family=7, flags=4)
+    for version in (0, 1, 2, 3):
+        yield bytes([version]) + bytes(3)
+        yield from (zeros(version, size) for size in ((5,) if version not in BODY else range(5, BODY[version] + 34)))
+    for family in (None, 7):
+        for fault in ({}, {"off": 4}, {"off": -4}, {"length": 0}, {"flags": 4}):
+            yield sheet(ROWS, version=1 if family else 2, family=family, **fault)
+    # read in the other version the length is right, with n 1 and p 4 in the family, and n 1 and p 3 in alpha
+    yield sheet(ROWS, version=1, family=0x00010004)
+    yield sheet(ROWS, version=2, alpha=0x0001000300000000)
+    for size in (LIMIT, LIMIT + 1):
+        yield from (bytes([version]) + bytes(size - 1) for version in (0, 1))
+    # a sheet of the largest length, with flags and n that are refused
+    yield from (sheet(grown(309, 13), p=13, flags=flags) for flags in (3, 4))
+
+
+def frames():
+    """11, 12, 13 and 16. With a byte more the largest sheet is 12 in version 1, and 16 in version 2."""
+    for off in (-5, -4, -1, 1, 4, 5):
+        yield draft(ROWS, off=off)
+    for length in (0, 0x49000000, 0x4d000000, FIELD - 1):
+        yield draft(ROWS, length=length)
+    for more in (-1, 1):
+        yield draft(ROWS, more=more)
+        yield draft(ROWS, off=more, more=more)
     for n in (0, 1, 3, 65535):
-        yield sheet(ROWS, n=n)
+        yield draft(ROWS, n=n)
     for p in (0, 2, 65535):
-        yield sheet(ROWS, p=p)
-    yield sheet(ROWS, length=74, flags=4)
-    yield sheet([], n=2)
-    yield sheet([], n=0)[:37]
+        yield draft(ROWS, p=p)
+    yield draft(ROWS, off=1, flags=4)
+    yield draft([], n=2)
+    yield draft([], more=-1)
+    yield draft([], off=-1, more=-1)
     for flags in (1, 2, 3, 4, 128, 255):
-        yield sheet(ROWS, flags=flags)
-    yield sheet(row(ROWS, 0, source=0), flags=4)
-    yield sheet([], flags=4)
-    yield sheet(grown(257, 1), flags=4)
+        yield draft(ROWS, flags=flags)
+    yield draft(row(ROWS, 0, source=0), flags=4)
+    yield draft([], flags=4)
+    yield draft(grown(257, 1), flags=4)
     for n, p in ((257, 0), (257, 1), (0, 17), (1, 17), (0, 65535)):
-        yield sheet(grown(n, p), p=p)
-    yield sheet(row(grown(257, 1), 0, source=0))
-    yield sheet(row(grown(2, 17), 1, source=0), p=17, alpha=NAN)
-    yield bytes(LIMIT)
-    yield b"\1" + bytes(LIMIT - 1)
-    yield bytes(LIMIT + 1)
-    yield b"\1" + bytes(LIMIT)
-    yield sheet(MOST, p=16) + b"\0"
-    yield sheet(MOST, p=16)
+        yield draft(grown(n, p), p=p)
+    yield draft(row(grown(257, 1), 0, source=0))
+    yield draft(row(grown(2, 17), 1, source=0), p=17, alpha=NAN)
+    yield draft(MOST, p=16, more=1)
+    yield draft(MOST, p=16)
 
 
 def pairs():
     """14 and 15."""
     for claim in (0, 1000, 65535):
         for i in (0, 1):
-            yield sheet(row(ROWS, i, source=claim))
-            yield sheet(row(ROWS, i, target=claim))
-    yield sheet(row(row(ROWS, 0, source=1, target=999), 1, source=999, target=1))
-    yield sheet(row(ROWS, 1, source=999, target=999))
+            yield draft(row(ROWS, i, source=claim))
+            yield draft(row(ROWS, i, target=claim))
+    yield draft(row(row(ROWS, 0, source=1, target=999), 1, source=999, target=1))
+    yield draft(row(ROWS, 1, source=999, target=999))
     for source, target in ((1, 1), (1, 2), (2, 1), (1, 999)):
-        yield sheet(row(ROWS, 1, source=source, target=target))
+        yield draft(row(ROWS, 1, source=source, target=target))
     three = grown(3, 1)
-    yield sheet(row(three, 0, source=5))
-    yield sheet(row(three, 2, target=three[1][1]))
-    yield sheet(row(three, 2, target=three[1][1] - 1))
-    yield sheet(row(row(three, 1, target=3), 2, source=0))
-    yield sheet(row(row(three, 1, source=0), 2, target=3))
-    yield sheet(row(three, 1, source=0, target=3))
-    yield sheet(row(row(three, 0, x=(0, NAN)), 2, source=1000))
-    yield sheet(row(three, 2, source=0), tol=NAN)
-    yield sheet(row(three, 2, target=3), alpha=-1.0)
-    yield sheet(row(MOST, 255, target=0), p=16)
-    yield sheet(row(MOST, 255, target=MOST[254][1]), p=16)
-    yield sheet(row(grown(2, 0), 1, target=1000), p=0)
-    yield sheet(row(grown(2, 0), 1, target=3), p=0)
+    yield draft(row(three, 0, source=5))
+    yield draft(row(three, 2, target=three[1][1]))
+    yield draft(row(three, 2, target=three[1][1] - 1))
+    yield draft(row(row(three, 1, target=3), 2, source=0))
+    yield draft(row(row(three, 1, source=0), 2, target=3))
+    yield draft(row(three, 1, source=0, target=3))
+    yield draft(row(row(three, 0, x=(0, NAN)), 2, source=1000))
+    yield draft(row(three, 2, source=0), tol=NAN)
+    yield draft(row(three, 2, target=3), alpha=-1.0)
+    yield draft(row(MOST, 255, target=0), p=16)
+    yield draft(row(MOST, 255, target=MOST[254][1]), p=16)
+    yield draft(row(grown(2, 0), 1, target=1000), p=0)
+    yield draft(row(grown(2, 0), 1, target=3), p=0)
 
 
 def starts():
     """1, 3, 5 and 6."""
     for n, p in ((0, 0), (0, 1), (0, 16), (1, 0), (2, 0), (256, 0)):
-        yield sheet(grown(n, p), p=p)
-    yield sheet([], alpha=-1.0)
+        yield draft(grown(n, p), p=p)
+    yield draft([], alpha=-1.0)
     above = math.nextafter
     for alpha in (0.0, -0.0, 1e6, above(1e6, INF), -5e-324, NAN, INF, -INF):
-        yield sheet(ROWS, alpha=alpha)
+        yield draft(ROWS, alpha=alpha)
     for ratio in (0.0, above(1.0, INF), -5e-324, NAN):
-        yield sheet(ROWS, ratio=ratio)
+        yield draft(ROWS, ratio=ratio)
     for tol in (0.0, sys.float_info.max, -5e-324, NAN, INF):
-        yield sheet(ROWS, tol=tol)
+        yield draft(ROWS, tol=tol)
     for rounds in (1001, 0xFFFFFFFF):
-        yield sheet(ROWS, rounds=rounds)
-    yield sheet(row(ROWS, 0, x=(0, NAN)), rounds=1001)
-    yield sheet(column(FOUR, 0, [1.0] * 4), p=3, flags=NORMALISE, tol=-1.0)
+        yield draft(ROWS, rounds=rounds)
+    yield draft(row(ROWS, 0, x=(0, NAN)), rounds=1001)
+    yield draft(column(FOUR, 0, [1.0] * 4), p=3, flags=NORMALISE, tol=-1.0)
     for value in (NAN, INF, -INF):
         for i, j in ((0, 0), (1, 2), (3, 2)):
-            yield sheet(row(FOUR, i, x=(j, value)), p=3)
-        yield sheet(row(FOUR, 0, y=value), p=3)
-        yield sheet(row(FOUR, 3, y=value), p=3, flags=LAZY)
-    yield sheet(row(row(FOUR, 0, y=NAN), 3, x=(2, INF)), p=3)
-    yield sheet(row(row(FOUR, 2, x=(0, NAN)), 1, x=(1, NAN)), p=3)
-    yield sheet(row(column(FOUR, 0, [1.0] * 4), 3, y=INF), p=3, flags=NORMALISE)
-    yield sheet(row(MOST, 255, y=NAN), p=16, flags=NORMALISE | LAZY)
+            yield draft(row(FOUR, i, x=(j, value)), p=3)
+        yield draft(row(FOUR, 0, y=value), p=3)
+        yield draft(row(FOUR, 3, y=value), p=3, flags=LAZY)
+    yield draft(row(row(FOUR, 0, y=NAN), 3, x=(2, INF)), p=3)
+    yield draft(row(row(FOUR, 2, x=(0, NAN)), 1, x=(1, NAN)), p=3)
+    yield draft(row(column(FOUR, 0, [1.0] * 4), 3, y=INF), p=3, flags=NORMALISE)
+    yield draft(row(MOST, 255, y=NAN), p=16, flags=NORMALISE | LAZY)
     for flags in (0, NORMALISE, LAZY, NORMALISE | LAZY):
         for j in range(3):
-            yield sheet(column(FOUR, j, [2.0] * 4), p=3, flags=flags)
-    yield sheet(column(column(FOUR, 1, [0.0] * 4), 2, [2.0] * 4), p=3, flags=NORMALISE)
+            yield draft(column(FOUR, j, [2.0] * 4), p=3, flags=flags)
+    yield draft(column(column(FOUR, 1, [0.0] * 4), 2, [2.0] * 4), p=3, flags=NORMALISE)
     for small in (2.0 ** -52, 2.0 ** -51):
-        yield sheet(column(FOUR, 2, [0.0, small] * 2), p=3, flags=NORMALISE)
-    yield sheet(column(MOST, 15, [0.5] * 256), p=16, flags=NORMALISE)
+        yield draft(column(FOUR, 2, [0.0, small] * 2), p=3, flags=NORMALISE)
+    yield draft(column(MOST, 15, [0.5] * 256), p=16, flags=NORMALISE)
 
 
 def cancelled():
     """A cancelled row's score, place and pair: 14, 15 and 1."""
-    yield sheet(THREE)
+    yield draft(THREE)
     for score in (1.0, 1, 1 << 32, 1 << 63, NAN, INF):
-        yield sheet(row(THREE, 1, y=score))
-    yield sheet([gone(1), *ROWS])
-    yield sheet([*ROWS, gone(999)])
-    yield sheet([gone(1), ROWS[0], gone(2), gone(3), ROWS[1], gone(4)])
-    yield sheet([gone(1), ROWS[0], gone(5)])
-    yield sheet([gone(7)])
-    yield sheet([gone(1 + i, p=16) for i in range(256)], p=16)
+        yield draft(row(THREE, 1, y=score))
+    yield draft([gone(1), *ROWS])
+    yield draft([*ROWS, gone(999)])
+    yield draft([gone(1), ROWS[0], gone(2), gone(3), ROWS[1], gone(4)])
+    yield draft([gone(1), ROWS[0], gone(5)])
+    yield draft([gone(7)])
+    yield draft([gone(1 + i, p=16) for i in range(256)], p=16)
     for source in (0, 1000):
-        yield sheet([gone(source), *ROWS])
-    yield sheet([ROWS[0], gone(0), ROWS[1]])
+        yield draft([gone(source), *ROWS])
+    yield draft([ROWS[0], gone(0), ROWS[1]])
     five = [gone(5), (5, 4, [1.0], 1.0), (5, 5, [2.0], 3.0)]
-    yield sheet(five)
-    yield sheet([gone(5), *five])
-    yield sheet([*five, gone(5)])
-    yield sheet([*ROWS, gone(2)])
-    yield sheet([ROWS[0], gone(5), ROWS[1]])
-    yield sheet([gone(1), gone(2), (3, 1000, [1.0], 1.0)])
-    yield sheet([gone(1), gone(2), ROWS[1], ROWS[1]])
+    yield draft(five)
+    yield draft([gone(5), *five])
+    yield draft([*five, gone(5)])
+    yield draft([*ROWS, gone(2)])
+    yield draft([ROWS[0], gone(5), ROWS[1]])
+    yield draft([gone(1), gone(2), (3, 1000, [1.0], 1.0)])
+    yield draft([gone(1), gone(2), ROWS[1], ROWS[1]])
 
 
 def cancelled_beside():
     """Cancelled rows beside other faults, and in what counts rows: 16 by all, 1, 5 and 6 by those that remain."""
-    yield sheet([*ROWS, gone(2, 1.0)])
-    yield sheet([ROWS[1], ROWS[0], gone(4, 1.0)])
-    yield sheet([ROWS[1], gone(4, 1.0), ROWS[0]])
-    yield sheet([gone(1), gone(2, 1.0)])
-    yield sheet([gone(1)], alpha=-1.0)
+    yield draft([*ROWS, gone(2, 1.0)])
+    yield draft([ROWS[1], ROWS[0], gone(4, 1.0)])
+    yield draft([ROWS[1], gone(4, 1.0), ROWS[0]])
+    yield draft([gone(1), gone(2, 1.0)])
+    yield draft([gone(1)], alpha=-1.0)
     scored = row(THREE, 1, y=1.0)
-    yield sheet(scored, flags=4)
-    yield sheet(scored, n=2)
-    yield sheet(scored, alpha=NAN)
-    yield sheet(row(grown(257, 1), 0, target=0))
-    yield sheet(struck(grown(257, 1), 252))
-    yield sheet(struck(MOST, 99), p=16)
-    yield sheet([gone(1, p=0), *grown(2, 0)], p=0)
-    yield sheet(row(HOLES, 5, x=(2, INF)), p=3)
-    yield sheet(row(HOLES, 4, y=NAN), p=3)
-    yield sheet(column(HOLES, 1, [7.0, 2.0, 2.0, 8.0, 2.0, 2.0]), p=3, flags=NORMALISE)
-    yield sheet(column(HOLES, 2, [2.0, 0.5, 0.5, NAN, 0.5, 0.5]), p=3, flags=NORMALISE | LAZY)
-    yield sheet([ROWS[0], gone(2)], flags=NORMALISE)
+    yield draft(scored, flags=4)
+    yield draft(scored, n=2)
+    yield draft(scored, alpha=NAN)
+    yield draft(row(grown(257, 1), 0, target=0))
+    yield draft(struck(grown(257, 1), 252))
+    yield draft(struck(MOST, 99), p=16)
+    yield draft([gone(1, p=0), *grown(2, 0)], p=0)
+    yield draft(row(HOLES, 5, x=(2, INF)), p=3)
+    yield draft(row(HOLES, 4, y=NAN), p=3)
+    yield draft(column(HOLES, 1, [7.0, 2.0, 2.0, 8.0, 2.0, 2.0]), p=3, flags=NORMALISE)
+    yield draft(column(HOLES, 2, [2.0, 0.5, 0.5, NAN, 0.5, 0.5]), p=3, flags=NORMALISE | LAZY)
+    yield draft([ROWS[0], gone(2)], flags=NORMALISE)
 
 
 def cut():
-    return [P8[:k] for k in range(len(P8) + 1)]
+    for data in (P8(version=1), P8(version=2, family=0x01020304)):
+        yield from (data[:k] for k in range(len(data) + 1))
 
 
 # ---- stored fits, and all
@@ -312,10 +366,15 @@ def fit(words):
     return rows, head, fit_text(["converged", "limit"][ended - 1], rest[:3], rest[3], rest[4:])
 
 
-def mixed(r, rows, full):
-    """The rows with cancelled ones before, between and behind them, 256 in all where they are to be full. The pairs are drawn anew, so that all rise."""
+def gaps_for(r, rows, full):
+    """How many cancelled rows stand before, between and behind these: 256 rows in all where they are to be full."""
     gaps = [r.pick([0, 0, 1, 1, 2]) for _ in range(len(rows) + 1)]
     gaps[r.below(len(gaps))] += (256 - len(rows) - sum(gaps)) if full else 1
+    return gaps
+
+
+def mixed(r, rows, gaps):
+    """The rows with cancelled ones before, between and behind them. The pairs are drawn anew, so that all rise."""
     p, found, source, target = len(rows[0][2]), [], 0, 0
     for gap, own in itertools.zip_longest(gaps, rows):
         for _ in range(gap):
@@ -335,17 +394,28 @@ def with_cancelled(fits):
     r = Random(SEED)
     for k in range(AGAIN):
         rows, head, text = fits[k * len(fits) // AGAIN]
-        yield sheet(mixed(r, rows, k % 20 == 0), **head), text
+        yield mixed(r, rows, gaps_for(r, rows, k % 20 == 0)), head, text
+
+
+def versions(r, fits):
+    """The fits as sheets. The family changes no answer."""
+    return [(*in_both(r, draft(rows, **head)), text) for rows, head, text in fits]
+
+
+def share(one, two):
+    return one[BODY[1]:] == two[BODY[2]:] and answered(one) == answered(two)
 
 
 def made(fits):
-    """All sheets with their texts, from the words of the stored fits."""
+    """From the words of the stored fits: the sheets whose two versions differ in their fronts alone and give the same text, and those that stand alone."""
+    r = Random(FAMILY_SEED)
     whole = [fit(words) for words in fits if words[1] <= 256 and words[2] <= 16]
-    stored = [(sheet(rows, **head), text) for rows, head, text in whole]
-    again = list(with_cancelled(whole))
-    edges = [(data, answered(data)) for data in itertools.chain(frames(), pairs(), starts(), cancelled(), cancelled_beside())]
-    shorter = [(data, answered(data)) for data in cut()]
-    refused = sum(text.startswith("refused") for _, text in edges)
-    print(f"sheets: {len(stored)} stored fits, {len(again)} of them again with cancelled rows, {len(edges)} at the edges ({refused} refused), "
-          f"{len(shorter)} cut")
-    return stored + again + edges + shorter
+    stored, again = versions(r, whole), versions(r, with_cancelled(whole))
+    edges = [in_both(r, make) for make in itertools.chain(frames(), pairs(), starts(), cancelled(), cancelled_beside())]
+    shared = [(*pair, answered(pair[0])) for pair in edges if share(*pair)]
+    single = [(data, answered(data)) for data in itertools.chain(alone(), *(pair for pair in edges if not share(*pair)))]
+    shorter = [(data, answered(data)) for data in dict.fromkeys(cut())]
+    refused = sum(text.startswith("refused") for *_, text in shared)
+    print(f"sheets: {len(stored)} stored fits, {len(again)} of them again with cancelled rows, {len(shared)} at the edges ({refused} refused), each in both "
+          f"versions; {len(single)} in one, {len(shorter)} cut")
+    return stored + again + shared, single + shorter

@@ -29,9 +29,9 @@ use Rattle.smartcore.specs.LassoOptimizer.{round, rounds, optimize}
 use Rattle.smartcore.specs.ElasticNet.{augmentY, optimizeEager, optimizeFit, rescaled, fit}
 use Rattle.checks.specs.Checks.{limitsOf, startValues}
 use Rattle.promises.specs.Outcome.{outcomeOf}
-use Rattle.sheet_header.specs.Bytes.{bigEndian}
-use Rattle.sheet_header.specs.Header.{bodyCheck, headerOf, headerCheck}
-use Rattle.sheet.specs.Rows.{claimsFine, rowsFrom, remaining, roomCheck, matrixOf, targetsOf}
+use Rattle.big_endian.specs.Bytes.{bigEndian}
+use Rattle.sheet_header.specs.Header.{bodyCheck, headerOf, acceptCheck}
+use Rattle.sheet.specs.Rows.{claimsFine, pairsFrom, leftOf, roomCheck, matrixOf, targetsOf}
 use Rattle.sheet.specs.Sheet.{bodyRows, rowsRead, bodyRead, sheetOf}
 use Rattle.corners.specs.Corners.{settingsOf, two-rows, FitHolds, SheetHolds, AllHold, p8-input, p8-end, p8-sheet, p9-input, p9-end, table}
 
@@ -52,7 +52,7 @@ module _ (M R C : ℕ) where
 -- ---- P8
 
 p8-reads : SheetHolds p8-sheet p8-input
-unfolding sheetOf rowsRead bodyRows bodyRead headerCheck bodyCheck bigEndian rowsFrom claimsFine remaining roomCheck matrixOf targetsOf headerOf grid tab
+unfolding sheetOf rowsRead bodyRows bodyRead acceptCheck bodyCheck bigEndian pairsFrom claimsFine leftOf roomCheck matrixOf targetsOf headerOf grid tab
 p8-reads R C x y l k = rw (l, k) refl
 
 p8-fits : FitHolds p8-input p8-end

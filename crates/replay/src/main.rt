@@ -1,11 +1,7 @@
 // Replays stored answers, kind by kind, and compares them bit for bit. Of each kind standard input has the number of its records, and the records.
 // A record is its kind, how many words stand before its numbers, how many of these are the first of two parts, and then what its trial is given
-// (crates `replay_parts` and `replay_fits`, and, of a sheet, below): words, and the bits of numbers.
-use sheet_fit::fit_sheet;
+// (crates `replay_parts`, `replay_fits`, `replay_moves` and `replay_sheets`): words, and the bits of numbers.
 use stored::bits::load;
-use stored::bytes::spelt;
-use stored::bytes::unpack;
-use stored::bytes::words_for;
 use stored::next_record;
 use stored::room::number_room;
 use stored::room::word_room;
@@ -15,7 +11,7 @@ use stored::tally::begun;
 use stored::tally::damaged;
 use stored::tally::differs;
 use stored::tally::tallied;
-ghost use Prim.Native.Nat.{_*_, _≤_, _<_};
+ghost use Prim.Native.Nat.{_≤_, _<_};
 ghost use lib.ListN.{length};
 
 const FIT: u64 = 1;
@@ -32,6 +28,13 @@ const ROOT: u64 = 6;
 
 const LOGARITHM: u64 = 7;
 
+// a sheet in both versions
+const BOTH: u64 = 8;
+
+const MOVE: u64 = 9;
+
+const WRITING: u64 = 10;
+
 fn main() {
     section(ROOT);
     section(LOGARITHM);
@@ -39,7 +42,10 @@ fn main() {
     section(DESIGN);
     section(FIT);
     section(PREDICTION);
+    section(BOTH);
     section(SHEET);
+    section(MOVE);
+    section(WRITING);
 }
 
 fn section(kind: u64) {
@@ -88,7 +94,9 @@ fn verdict(w: &[u64], kind: u64) -> Verdict
     match kind {
         ROOT => replay_parts::functions::root_verdict(&w[3..]),
         LOGARITHM => replay_parts::functions::logarithm_verdict(&w[3..]),
-        SHEET => sheet(&w[3..]),
+        BOTH => replay_sheets::sheets::both(&w[3..]),
+        SHEET => replay_sheets::sheets::alone(&w[3..]),
+        MOVE => replay_moves::moves::verdict(&w[3..]),
         _ => loaded(kind, &w[3..h], &w[h..], a),
     }
 }
@@ -110,53 +118,9 @@ fn tried(kind: u64, w: &[u64], x: &[f64], y: &[f64]) -> Verdict {
         FIT => replay_fits::fits::verdict(w, x, y),
         SOLVER => replay_parts::solver::verdict(w, x, y),
         PREDICTION => replay_parts::predictions::verdict(w, x, y),
+        WRITING => replay_moves::writings::verdict(w, x, y),
         _ => replay_fits::designs::verdict(w, x, y),
     }
-}
-
-// The words are the sheet's length in bytes and its bytes, then the length and the bytes of its text; zeros stand behind the last byte of a word.
-fn sheet(w: &[u64]) -> Verdict {
-    if w.len() < 1 {
-        return Verdict::DamagedAt(0);
-    }
-    let n = w[0] as usize;
-    if n > 35879 {
-        return Verdict::DamagedAt(4);
-    }
-    let k = words_for(n);
-    if w.len() < k + 2 {
-        return Verdict::DamagedAt(0);
-    }
-    let m = w[k + 1] as usize;
-    if m > 2048 {
-        return Verdict::DamagedAt(k as u64 + 5);
-    }
-    if w.len() != k + 2 + words_for(m) {
-        return Verdict::DamagedAt(0);
-    }
-    Verdict::Compared(fitted(&w[1..k + 1], n, &w[k + 2..], m), true, true, true)
-}
-
-fn fitted(sheet: &[u64], n: usize, wanted: &[u64], m: usize) -> bool
-    requires { ⌜ n ≤ 35879 ⌝ }
-    requires { ⌜ n ≤ 8 * length (now sheet) ⌝ }
-    requires { ⌜ m ≤ 8 * length (now wanted) ⌝ }
-{
-    let mut bytes = io::large_buffer();
-    agrees(sheet, &mut bytes[0..n], wanted, m)
-}
-
-fn agrees(sheet: &[u64], bytes: &mut [u8], wanted: &[u64], m: usize) -> bool
-    requires { ⌜ length (now bytes) ≤ 8 * length (now sheet) ⌝ }
-    requires { ⌜ m ≤ 8 * length (now wanted) ⌝ }
-{
-    unpack(sheet, bytes);
-    let mut text = [0u8; 2048];
-    let k = fit_sheet(bytes, &mut text);
-    if k != m {
-        return false;
-    }
-    spelt(&text[..k], wanted)
 }
 
 fn end(t: Tally, kind: u64) {
@@ -171,7 +135,13 @@ fn end(t: Tally, kind: u64) {
         }
         PREDICTION => agree(b"predictions ", t),
         DESIGN => designs(t),
-        SHEET => agree(b"sheets ", t),
+        BOTH => {
+            of(b"sheets in version 1 ", t.first, t.records);
+            of(b" agree, in version 2 ", t.second, t.records);
+        }
+        SHEET => agree(b"sheets alone ", t),
+        MOVE => agree(b"moves ", t),
+        WRITING => agree(b"writings ", t),
         ROOT => agree(b"roots ", t),
         _ => agree(b"logarithms ", t),
     }

@@ -2,8 +2,7 @@
 -- Assumes nothing.
 use mathlib.Core.Path.{_≡_, refl, sym, ap, _∙_}
 use mathlib.Core.List.{List}
-use Prim.Native.Nat.{ℕ, zero, suc, _+_, _-_, _*_, _≤_, _<_}
-use native.Mathlib.Nat.{le-refl}
+use Prim.Native.Nat.{ℕ, _+_, _-_, _*_, _≤_, _<_}
 use native.Mathlib.Omega.{arith}
 use lib.ListN.{length, getD, length-drop}
 use lib.Seq.{getD-drop}
@@ -14,14 +13,17 @@ use Rattle.arrays.proofs.Part.{length-tab, getD-tab, tab-ext}
 use Rattle.matrices.specs.Grid.{grid}
 use Rattle.matrices.proofs.Grid.{grid-ext}
 use Rattle.refusal.proofs.Sizes.{InSize}
+use Rattle.big_endian.specs.Bytes.{bigEndian, float-at}
+use Rattle.big_endian.proofs.Bytes.{same-bytes}
+use Rattle.sheet_front.specs.Front.{versionOf, bodyAt, bodyOf}
 use Rattle.sheet_header.specs.declared.Header.{Header}
 use Rattle.sheet_header.specs.declared.Read.{Read}
 use Rattle.sheet_header.specs.declared.Read.the-variants.{Sheet, Refused}
-use Rattle.sheet_header.specs.Bytes.{bigEndian, float-at}
-use Rattle.sheet_header.specs.Header.{row-at, bodyCheck, headerOf, bodyOf, headerCheck, headerRead, Said.refused, said}
-use Rattle.sheet.specs.Rows.{sourceOf, targetOf, featureOf, scoreOf, scoreBits, rises, rowsFrom, remaining, matrixOf, targetsOf}
+use Rattle.sheet_header.specs.Header.{row-at, bodyCheck, headerOf, acceptCheck, headerCheck, headerRead, Said.refused, said}
+use Rattle.sheet.specs.Rows.{sourceOf, targetOf, featureOf, scoreOf, scoreBits, rowsFrom, remaining, matrixOf, targetsOf}
 use Rattle.sheet.specs.Sheet.{bodyRows, rowsRead, bodyRead, byCount, sheetOf}
-use Rattle.sheet.proofs.Remaining.{all-remain, none-remain, same-remain, uncancelled}
+use Rattle.sheet.proofs.Rows.{same-pairs}
+use Rattle.sheet.proofs.Remaining.{all-remain, none-remain, same-left, uncancelled}
 use Rattle.sheet.proofs.Laws.{rows-in, columns-in, rows-left, Reads, BytesFine, counts-remaining, FirstRefusal.size, first-refusal}
 
 -- where no target is 0, the rows that remain are 0 to n - 1, and matrix and targets are by the sheet's rows
@@ -101,35 +103,42 @@ module _ (b b₀ : List ℕ) (a : Dropped b b₀) where
 
 pub record Alike (b b′ : List ℕ) : Type 0 where
   pub long : length b ≡ length b′
-  pub header : (k : ℕ) → k < 38 → getD b k 0 ≡ getD b′ k 0
+  pub header : (k : ℕ) → k < bodyAt (versionOf b) + 33 → getD b k 0 ≡ getD b′ k 0
   pub sources : (i : ℕ) → i < rows-in b → sourceOf (bodyOf b) (columns-in b) i ≡ sourceOf (bodyOf b′) (columns-in b) i
   pub targets : (i : ℕ) → i < rows-in b → targetOf (bodyOf b) (columns-in b) i ≡ targetOf (bodyOf b′) (columns-in b) i
   pub scores : (i : ℕ) → i < rows-in b → scoreBits (bodyOf b) (columns-in b) i ≡ scoreBits (bodyOf b′) (columns-in b) i
   pub features : (i j : ℕ) → i < rows-in b → j < columns-in b → (targetOf (bodyOf b) (columns-in b) i ≡ 0 → ⊥)
       → featureOf (bodyOf b) (columns-in b) i j ≡ featureOf (bodyOf b′) (columns-in b) i j
 
-same-number : (b b′ : List ℕ) (at k : ℕ) → ((j : ℕ) → j < k → getD b (at + j) 0 ≡ getD b′ (at + j) 0) → bigEndian b at k ≡ bigEndian b′ at k
-unfolding bigEndian
-same-number b b′ at zero h = refl
-same-number b b′ at (suc k) h = rw (same-number b b′ at k (λ j l. h j (omega arith)), h k (le-refl (suc k)))
-
 module _ (b b′ : List ℕ) (a : Alike b b′) where
   -- ---- the header
 
+  version : versionOf b ≡ versionOf b′
+  version = a .header 0 (omega arith)
+
+  byte : (k : ℕ) → k < 33 → getD (bodyOf b) k 0 ≡ getD (bodyOf b′) k 0
+  byte k h =
+      getD-drop (bodyAt (versionOf b)) b k 0
+      ∙ a .header (bodyAt (versionOf b) + k) (omega arith)
+      ∙ ap (λ (v : ℕ). getD b′ (bodyAt v + k) 0) version
+      ∙ sym (getD-drop (bodyAt (versionOf b′)) b′ k 0)
+
   field : (at k : ℕ) → at + k ≤ 33 → bigEndian (bodyOf b) at k ≡ bigEndian (bodyOf b′) at k
-  field at k h = same-number (bodyOf b) (bodyOf b′) at k (λ j l. getD-drop 5 b (at + j) 0 ∙ a .header (5 + (at + j)) (omega arith) ∙ sym (getD-drop 5 b′ (at + j) 0))
+  field at k h = same-bytes (bodyOf b) (bodyOf b′) at at k (λ j l. byte (at + j) (omega arith))
 
   flags : getD (bodyOf b) 32 0 ≡ getD (bodyOf b′) 32 0
-  flags = getD-drop 5 b 32 0 ∙ a .header 37 (omega arith) ∙ sym (getD-drop 5 b′ 32 0)
+  flags = byte 32 (omega arith)
 
   long : length (bodyOf b) ≡ length (bodyOf b′)
-  long = length-drop 5 b ∙ ap (λ (l : ℕ). l - 5) (a .long) ∙ sym (length-drop 5 b′)
+  long =
+      let e : bodyAt (versionOf b) ≡ bodyAt (versionOf b′) = ap bodyAt version in
+      omega (arith, e, a .long, length-drop (bodyAt (versionOf b)) b, length-drop (bodyAt (versionOf b′)) b′)
 
   same-check : headerCheck b ≡ headerCheck b′
-  unfolding headerCheck bodyCheck
+  unfolding acceptCheck bodyCheck
   same-check =
-      let size = same-number b b′ 1 4 (λ j l. a .header (1 + j) (omega arith)) in
-      rw (a .long, a .header 0 (omega arith), size, long, field 2 2 (omega arith), field 0 2 (omega arith), flags)
+      let size = same-bytes b b′ 1 1 4 (λ j l. a .header (1 + j) (omega arith)) in
+      rw (a .long, size, long, field 2 2 (omega arith), field 0 2 (omega arith), flags, version)
 
   same-header : (n R C : ℕ) → headerOf (bodyOf b) n R C ≡ headerOf (bodyOf b′) n R C
   unfolding headerOf
@@ -144,30 +153,22 @@ module _ (b b′ : List ℕ) (a : Alike b b′) where
   abbrev p : ℕ
   p = columns-in b
 
-  same-rises : (i : ℕ) → i < n → rises (bodyOf b) p i ≡ rises (bodyOf b′) p i
-  same-rises zero h = refl
-  same-rises (suc i) h = rw (a .sources i (omega arith), a .targets i (omega arith), a .sources (suc i) h, a .targets (suc i) h)
+  same-rows : rowsFrom (bodyOf b) p n 0 ≡ rowsFrom (bodyOf b′) p n 0
+  same-rows = same-pairs n (λ i l. (a .sources i l, a .targets i l, a .scores i l)) n 0 (omega arith)
 
-  same-rows : (left i : ℕ) → i + left ≤ n → rowsFrom (bodyOf b) p left i ≡ rowsFrom (bodyOf b′) p left i
-  unfolding rowsFrom
-  same-rows zero i h = refl
-  same-rows (suc left) i h =
-      let l : i < n = omega arith in
-      rw (same-rises i l, same-rows left (i + 1) (omega arith), a .sources i l, a .targets i l, a .scores i l)
-
-  same-left : remaining (bodyOf b) p n ≡ remaining (bodyOf b′) p n
-  same-left = same-remain (bodyOf b) (bodyOf b′) p n (a .targets)
+  same-rest : remaining (bodyOf b) p n ≡ remaining (bodyOf b′) p n
+  same-rest = same-left (targetOf (bodyOf b) p) (targetOf (bodyOf b′) p) n (a .targets)
 
   same-matrix : matrixOf (bodyOf b) n p ≡ matrixOf (bodyOf b′) (rows-in b′) (columns-in b′)
   unfolding matrixOf
   same-matrix =
-      rw (← field 0 2 (omega arith), ← field 2 2 (omega arith), ← same-left) (grid-ext _ _ _ p (λ i j l m.
+      rw (← field 0 2 (omega arith), ← field 2 2 (omega arith), ← same-rest) (grid-ext _ _ _ p (λ i j l m.
       let k = uncancelled (bodyOf b) p n i l in
       a .features _ j (k .0) m (eqb-false _ 0 (k .1))))
 
   same-targets : targetsOf (bodyOf b) n p ≡ targetsOf (bodyOf b′) (rows-in b′) (columns-in b′)
   unfolding targetsOf
-  same-targets = rw (← field 0 2 (omega arith), ← field 2 2 (omega arith), ← same-left) (tab-ext _ _ _ (λ i l. rw (a .scores _ (uncancelled (bodyOf b) p n i l .0))))
+  same-targets = rw (← field 0 2 (omega arith), ← field 2 2 (omega arith), ← same-rest) (tab-ext _ _ _ (λ i l. rw (a .scores _ (uncancelled (bodyOf b) p n i l .0))))
 
   -- they have one header, one count and one outcome
   pub same-header-read : (R C : ℕ) → headerRead b R C ≡ headerRead b′ R C
@@ -177,7 +178,7 @@ module _ (b b′ : List ℕ) (a : Alike b b′) where
   pub same-count : (R C : ℕ) → rowsRead b R C ≡ rowsRead b′ R C
   unfolding rowsRead bodyRows
   same-count R C =
-      rw (same-check, ← field 0 2 (omega arith), ← field 2 2 (omega arith), ← same-left, same-header (rows-left b) R C, same-rows n 0 (omega arith))
+      rw (same-check, ← field 0 2 (omega arith), ← field 2 2 (omega arith), ← same-rest, same-header (rows-left b) R C, same-rows)
 
   pub cancelled-ignored : (R C : ℕ) (x y : List Float) → sheetOf b R C x y ≡ sheetOf b′ R C x y
   cancelled-ignored R C = one-outcome b b′ R C (same-count R C) same-matrix same-targets

@@ -11,13 +11,15 @@ use Rattle.refusal.specs.declared.Refusal.{Refusal}
 use Rattle.refusal.specs.declared.Refusal.the-variants.{Size, Length, Claim, Pair}
 use Rattle.refusal.specs.declared.Checked.{Checked}
 use Rattle.refusal.specs.declared.Checked.the-variants.{Fine, Bad}
+use Rattle.refusal.specs.Refusal.{numberOf, placeOf}
 use Rattle.refusal.proofs.Sizes.{InSize, size-known}
+use Rattle.sheet_front.specs.Front.{bodyOf}
 use Rattle.sheet_header.specs.declared.Header.{Header}
 use Rattle.sheet_header.specs.declared.Read.{Read}
 use Rattle.sheet_header.specs.declared.Read.the-variants.{Sheet, Refused}
-use Rattle.sheet_header.specs.Header.{nOf, pOf, headerOf, bodyOf, headerCheck, Said.refused, said}
-use Rattle.sheet_header.proofs.Checks.{Headed, good-header}
-use Rattle.sheet_header.proofs.Laws.{HeaderRefusal, header-told, every-header}
+use Rattle.sheet_header.specs.Header.{nOf, pOf, headerOf, acceptCheck, headerCheck, Said.refused, said}
+use Rattle.sheet_header.proofs.Checks.{HeadedIn, good-header}
+use Rattle.sheet_header.proofs.Laws.{HeaderRefusalIn, header-told, every-header}
 use Rattle.sheet.specs.Rows.{rowsFrom, roomCheck, matrixOf, targetsOf}
 use Rattle.sheet.specs.Sheet.{remains, rowsRead, Outcome, Outcome.outcome, byCheck, bodyRead, byCount, sheetOf}
 use Rattle.sheet.proofs.Checks.{RowClaims, Rises, RowsFine, BadRow, Lengths, rows-known, lengths-known}
@@ -61,61 +63,69 @@ spared (Sheet h) b x y q x′ y′ e = room-spared (roomCheck (h .n) (h .p) (len
 
 -- ---- the refusals of the bytes alone, in 01's order
 
-module _ (b : List ℕ) where
+-- where the versions from `first` to `last` are accepted
+module _ (first last : ℕ) (b : List ℕ) where
   -- refusal k at place i is the first that holds
-  pub data RowRefusal : ℕ → ℕ → Type 0 where
-    header : {k i : ℕ} → HeaderRefusal b k i → RowRefusal k i
-    claim : Headed b → {i : ℕ} → i < rows-in b → RowsFine (bodyOf b) i → (RowClaims (bodyOf b) i → ⊥) → RowRefusal 14 i
-    pair : Headed b → {i : ℕ} → i < rows-in b → RowsFine (bodyOf b) i → RowClaims (bodyOf b) i → (Rises (bodyOf b) i → ⊥) → RowRefusal 15 i
+  pub data RowRefusalIn : ℕ → ℕ → Type 0 where
+    header : {k i : ℕ} → HeaderRefusalIn first last b k i → RowRefusalIn k i
+    claim : HeadedIn first last b → {i : ℕ} → i < rows-in b → RowsFine (bodyOf b) i → (RowClaims (bodyOf b) i → ⊥) → RowRefusalIn 14 i
+    pair : HeadedIn first last b → {i : ℕ} → i < rows-in b → RowsFine (bodyOf b) i → RowClaims (bodyOf b) i → (Rises (bodyOf b) i → ⊥) → RowRefusalIn 15 i
 
   -- none of them holds
-  pub record BytesFine : Type 0 where
-    pub header : Headed b
+  pub record BytesFineIn : Type 0 where
+    pub header : HeadedIn first last b
     pub rows : RowsFine (bodyOf b) (rows-in b)
 
   abbrev Told : Type 0
-  Told = BytesFine ⊎ ((k : ℕ) × (i : ℕ) × RowRefusal k i)
+  Told = BytesFineIn ⊎ ((k : ℕ) × (i : ℕ) × RowRefusalIn k i)
 
   -- every sheet is in one row of the table, or in none
-  pub every-count : BytesFine ⊎ ((k : ℕ) × (i : ℕ) × RowRefusal k i)
-  every-count = begins (every-header b) where
-    rows : Headed b → RowsFine (bodyOf b) (rows-in b) ⊎ BadRow (bodyOf b) (rows-in b) → Told
+  pub every-count : BytesFineIn ⊎ ((k : ℕ) × (i : ℕ) × RowRefusalIn k i)
+  every-count = begins (every-header first last b) where
+    rows : HeadedIn first last b → RowsFine (bodyOf b) (rows-in b) ⊎ BadRow (bodyOf b) (rows-in b) → Told
     rows h (inl f) = inl (record { header = h; rows = f })
     rows h (inr (i, l, f, inl c)) = inr (14, i, claim h l f c)
     rows h (inr (i, l, f, inr (c, r))) = inr (15, i, pair h l f c r)
 
-    begins : Headed b ⊎ ((k : ℕ) × (i : ℕ) × HeaderRefusal b k i) → Told
-    begins (inl h) = rows h (rows-known (bodyOf b) (rows-in b))
+    begins : HeadedIn first last b ⊎ ((k : ℕ) × (i : ℕ) × HeaderRefusalIn first last b k i) → Told
+    begins (inl h) = rows h (rows-known _ _ _ (rows-in b))
     begins (inr (k, i, h)) = inr (k, i, header h)
 
   -- the check that refuses it: the header's, or behind it the rows'
-  abbrev RefusedBy : Refusal → Type 0
-  RefusedBy q = (headerCheck b ≡ Bad q) ⊎ (Headed b × (rowsFrom (bodyOf b) (columns-in b) (rows-in b) 0 ≡ Bad q))
+  abbrev pub RefusedBy : Refusal → Type 0
+  RefusedBy q = (acceptCheck first last b ≡ Bad q) ⊎ (HeadedIn first last b × (rowsFrom (bodyOf b) (columns-in b) (rows-in b) 0 ≡ Bad q))
 
-  row-told : {k i : ℕ} → RowRefusal k i → (q : Refusal) × RefusedBy q × (said (Refused q) ≡ refused k i)
+  pub row-told : {k i : ℕ} → RowRefusalIn k i → (q : Refusal) × RefusedBy q × (numberOf q ≡ k) × (placeOf q ≡ i)
   row-told (header h) =
-      let t = header-told b h in
-      (t .0, inl (t .1), t .2)
-  row-told (claim h {i = i} l f n) = (Claim i, inr (h, bad-claim (bodyOf b) _ i l f n), refl)
-  row-told (pair h {i = i} l f c n) = (Pair i, inr (h, bad-pair (bodyOf b) _ i l f c n), refl)
+      let t = header-told first last b h in
+      (t .0, inl (t .1), t .2, t .3)
+  row-told (claim h {i = i} l f n) = (Claim i, inr (h, bad-claim _ _ _ _ i l f n), refl, refl)
+  row-told (pair h {i = i} l f c n) = (Pair i, inr (h, bad-pair _ _ _ _ i l f c n), refl, refl)
 
-  module _ (R C : ℕ) where
-    count-told : (q : Refusal) → RefusedBy q → rowsRead b R C ≡ Refused q
-    count-told q (inl e) = sym (count-refused b R C (headerCheck b) refl e)
-    count-told q (inr (h, e)) = sym (count-read b R C (headerCheck b) refl _ (good-header b h) (bad-count (bodyOf b) R C _ _ refl refl _ refl e))
+-- for a reader
+abbrev pub RowRefusal : List ℕ → ℕ → ℕ → Type 0
+RowRefusal b k i = RowRefusalIn 1 2 b k i
 
-    module _ {r : Read} (c : r ≡ rowsRead b R C) where
-      -- 01's number and place are those of the first refusal that holds
-      pub first-row-refusal : {k i : ℕ} → RowRefusal k i → said r ≡ refused k i
-      first-row-refusal h =
-          let t = row-told h in
-          ap said (c ∙ count-told (t .0) (t .1)) ∙ t .2
+abbrev pub BytesFine : List ℕ → Type 0
+BytesFine b = BytesFineIn 1 2 b
 
-      -- where none holds, the header has the n that remains
-      pub counts-remaining : BytesFine → r ≡ Sheet (headerOf (bodyOf b) (rows-left b) R C)
-      counts-remaining w =
-          let l = good-rows (bodyOf b) _ (w .rows) in
-          c ∙ sym (count-read b R C (headerCheck b) refl _ (good-header b (w .header)) (counts-all (bodyOf b) R C _ _ refl refl _ refl _ _ l refl refl))
+module _ (b : List ℕ) (R C : ℕ) where
+  count-told : (q : Refusal) → RefusedBy 1 2 b q → rowsRead b R C ≡ Refused q
+  count-told q (inl e) = sym (count-refused b R C (headerCheck b) refl e)
+  count-told q (inr (h, e)) = sym (count-read b R C (headerCheck b) refl _ (good-header 1 2 b h) (bad-count (bodyOf b) R C _ _ refl refl _ refl e))
+
+  module _ {r : Read} (c : r ≡ rowsRead b R C) where
+    -- 01's number and place are those of the first refusal that holds
+    pub first-row-refusal : {k i : ℕ} → RowRefusal b k i → said r ≡ refused k i
+    first-row-refusal h =
+        let t = row-told 1 2 b h in
+        ap said (c ∙ count-told (t .0) (t .1)) ∙ rw (t .2, t .3)
+
+    -- where none holds, the header has the n that remains
+    pub counts-remaining : BytesFine b → r ≡ Sheet (headerOf (bodyOf b) (rows-left b) R C)
+    counts-remaining w =
+        let l = good-rows _ _ _ _ (w .rows) in
+        c ∙ sym (count-read b R C (headerCheck b) refl _ (good-header 1 2 b (w .header)) (counts-all (bodyOf b) R C _ _ refl refl _ refl _ _ l refl refl))
 
 module _ (b : List ℕ) (R C : ℕ) (x y : List Float) where
   pub outcomes-coincide : {r q : Read} {x′ x″ y′ y″ : List Float} → Reads b R C x y r x′ y′ → Reads b R C x y q x″ y″ → (r ≡ q) × (x′ ≡ x″) × (y′ ≡ y″)
@@ -146,7 +156,7 @@ module _ (b : List ℕ) (R C : ℕ) (x y : List Float) where
 
   -- every sheet is in one row of the table, or in none
   pub every-sheet : WellFormed ⊎ ((k : ℕ) × (i : ℕ) × FirstRefusal k i)
-  every-sheet = begins (every-count b) where
+  every-sheet = begins (every-count 1 2 b) where
     longs : BytesFine b → InSize (rows-left b) (columns-in b) → Dec (Lengths (rows-left b) (columns-in b) (length x) (length y)) → Placed
     longs h z (yes l) = inl (record { bytes = h; size = z; lengths = l })
     longs h z (no l) = inr (2, 0, lengths h z l)
@@ -155,7 +165,7 @@ module _ (b : List ℕ) (R C : ℕ) (x y : List Float) where
     sizes h (yes z) = longs h z (lengths-known (rows-left b) (columns-in b) (length x) (length y))
     sizes h (no z) = inr (1, 0, size h z)
 
-    begins : Told b → Placed
+    begins : Told 1 2 b → Placed
     begins (inl h) = sizes h (size-known (rows-left b) (columns-in b))
     begins (inr (k, i, h)) = inr (k, i, bytes h)
 
@@ -170,8 +180,8 @@ module _ (b : List ℕ) (R C : ℕ) (x y : List Float) where
 
   told : {k i : ℕ} → FirstRefusal k i → (q : Refusal) × (sheetOf b R C x y ≡ outcome (Refused q) x y) × (said (Refused q) ≡ refused k i)
   told (bytes h) =
-      let t = row-told b h in
-      (t .0, sym (sheet-refused b R C (rowsRead b R C) refl x y (count-told b R C (t .0) (t .1))), t .2)
+      let t = row-told 1 2 b h in
+      (t .0, sym (sheet-refused b R C (rowsRead b R C) refl x y (count-told b R C (t .0) (t .1))), rw (t .2, t .3))
   told (size h n) = (Size, room-told Size h (bad-size _ _ _ _ n), refl)
   told (lengths h z n) = (Length, room-told Length h (bad-length _ _ _ _ z n), refl)
 
@@ -201,8 +211,8 @@ module _ (b : List ℕ) (R C : ℕ) (x y : List Float) where
   pub counted-lends : {h : Header} → Sheet h ≡ rowsRead b R C → InSize (h .n) (h .p) → length x ≡ h .n * h .p → length y ≡ h .n
       → (h ≡ headerOf (bodyOf b) (rows-left b) R C) × WellFormed
   unfolding headerOf
-  counted-lends {h} e z lx ly = go (every-count b) where
-    go : Told b → (h ≡ headerOf (bodyOf b) (rows-left b) R C) × WellFormed
+  counted-lends {h} e z lx ly = go (every-count 1 2 b) where
+    go : Told 1 2 b → (h ≡ headerOf (bodyOf b) (rows-left b) R C) × WellFormed
     go (inl w) =
         let c = e ∙ counts-remaining b R C refl w in
         let q : h ≡ headerOf (bodyOf b) (rows-left b) R C = cc in
@@ -210,6 +220,6 @@ module _ (b : List ℕ) (R C : ℕ) (x y : List Float) where
         let ep : h .p ≡ columns-in b = ap (λ (g : Header). g .p) q in
         (q, record { bytes = w; size = rw (en, ep) at z; lengths = record { matrix = rw (en, ep) at lx; targets = rw en at ly } })
     go (inr (k, i, w)) =
-        let c = e ∙ count-told b R C _ (row-told b w .1) in
+        let c = e ∙ count-told b R C _ (row-told 1 2 b w .1) in
         let f : _≡_ {A = ℕ} 0 1 = cc in
         absurd (omega arith)

@@ -4,3 +4,4 @@ pub mod Outcomes
 pub mod Checks
 pub mod Laws
 pub mod Cancelled
+pub mod Versions

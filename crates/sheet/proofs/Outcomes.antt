@@ -7,10 +7,11 @@ use lib.Ieee.{Float}
 use Rattle.refusal.specs.declared.Refusal.{Refusal}
 use Rattle.refusal.specs.declared.Checked.{Checked}
 use Rattle.refusal.specs.declared.Checked.the-variants.{Fine, Bad}
+use Rattle.sheet_front.specs.Front.{versionOf, bodyAt, bodyOf}
 use Rattle.sheet_header.specs.declared.Header.{Header}
 use Rattle.sheet_header.specs.declared.Read.{Read}
 use Rattle.sheet_header.specs.declared.Read.the-variants.{Sheet, Refused}
-use Rattle.sheet_header.specs.Header.{nOf, pOf, headerOf, bodyOf, headerCheck}
+use Rattle.sheet_header.specs.Header.{nOf, pOf, headerOf, headerCheck}
 use Rattle.sheet_header.proofs.Passed.{lent-from, body-lent, Laid, laid-fine, passed}
 use Rattle.sheet.specs.Rows.{rowsFrom, remaining, roomCheck, matrixOf, targetsOf}
 use Rattle.sheet.specs.Sheet.{remains, bodyRows, rowsRead, Outcome, Outcome.outcome, bodyRead, sheetOf}
@@ -26,8 +27,8 @@ module _ (b : List ℕ) (R C : ℕ) (k : Checked) (e : k ≡ headerCheck b) wher
   unfolding rowsRead
   count-read r f g = rw (← e, f, g)
 
-  pub lent-count : (r : Read) → k ≡ Fine → r ≡ bodyRows (lent-from b) R C → r ≡ rowsRead b R C
-  lent-count r f g = count-read r f (rw (body-lent b) at g)
+  pub lent-count : (at : ℕ) (r : Read) → at ≡ bodyAt (versionOf b) → k ≡ Fine → r ≡ bodyRows (lent-from b at) R C → r ≡ rowsRead b R C
+  lent-count at r a f g = count-read r f (rw (body-lent b at a) at g)
 
 -- ---- a sheet that is counted
 
@@ -40,7 +41,7 @@ module _ (b : List ℕ) (R C : ℕ) (o : Read) (e : o ≡ rowsRead b R C) where
       let i = passed (headerCheck b) (sym f ∙ e) in
       let j = passed (rowsFrom d (pOf d) (nOf d) 0) (i .1) .1 in
       let q : h ≡ headerOf d (remains d) R C = cc in
-      (laid-fine b (headerCheck b) refl (i .0), ap (λ (g : Header). g .n) q, ap (λ (g : Header). g .p) q)
+      (laid-fine 1 2 b (headerCheck b) refl (i .0), ap (λ (g : Header). g .n) q, ap (λ (g : Header). g .p) q)
 
   module _ (x y : List Float) where
     pub sheet-refused : {q : Refusal} → o ≡ Refused q → outcome (Refused q) x y ≡ sheetOf b R C x y
@@ -51,8 +52,8 @@ module _ (b : List ℕ) (R C : ℕ) (o : Read) (e : o ≡ rowsRead b R C) where
     unfolding sheetOf
     sheet-read f g = rw (← e, f) g
 
-    pub lent-read : {h : Header} {u : Outcome} → o ≡ Sheet h → u ≡ bodyRead (lent-from b) h x y → u ≡ sheetOf b R C x y
-    lent-read f g = sheet-read f (rw (body-lent b) at g)
+    pub lent-read : (at : ℕ) {h : Header} {u : Outcome} → at ≡ bodyAt (versionOf b) → o ≡ Sheet h → u ≡ bodyRead (lent-from b at) h x y → u ≡ sheetOf b R C x y
+    lent-read at a f g = sheet-read f (rw (body-lent b at a) at g)
 
 -- ---- of a body
 

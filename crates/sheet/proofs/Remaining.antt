@@ -10,7 +10,7 @@ use native.Mathlib.Omega.{arith}
 use lib.ListN.{length, getD, length-append, List·getD-append}
 use lib.Seq.{getD-append-add}
 use Rattle.arrays.specs.Part.{tab}
-use Rattle.sheet.specs.Rows.{targetOf, cancelled, remaining}
+use Rattle.sheet.specs.Rows.{leftOf, cancelled, remaining}
 
 module _ (b : List ℕ) (p : ℕ) where
   -- how many of the first i rows remain: the place in the matrix where row i goes
@@ -18,17 +18,17 @@ module _ (b : List ℕ) (p : ℕ) where
   place i = length (remaining b p i)
 
   pub none : _≡_ {A = ℕ} 0 (place 0)
-  unfolding remaining
+  unfolding leftOf
   none = refl
 
   -- ---- one row more: it remains, or not
 
   row-more : (i : ℕ) → cancelled b p i ≡ false → remaining b p (i + 1) ≡ remaining b p i ++ (i ∷ [])
-  unfolding remaining
+  unfolding leftOf
   row-more i e = rw (add-one i, e)
 
   row-gone : (i : ℕ) → cancelled b p i ≡ true → remaining b p (i + 1) ≡ remaining b p i
-  unfolding remaining
+  unfolding leftOf
   row-gone i e = rw (add-one i, e) (append-nil (remaining b p i))
 
   -- ---- places
@@ -46,7 +46,7 @@ module _ (b : List ℕ) (p : ℕ) where
       (omega arith, omega arith)
 
   pub place-most : (i : ℕ) → place i ≤ i
-  unfolding remaining
+  unfolding leftOf
   place-most zero = le-refl 0
   place-most (suc i) =
       let u = place-up i (cancelled b p i) refl in
@@ -76,7 +76,7 @@ module _ (b : List ℕ) (p : ℕ) where
       omega arith
 
   stays : (i k : ℕ) → k < place i → getD (remaining b p (suc i)) k 0 ≡ getD (remaining b p i) k 0
-  unfolding remaining
+  unfolding leftOf
   stays i k h = List·getD-append (remaining b p i) (cond (cancelled b p i) [] (i ∷ [])) 0 k h
 
   stands : (i n k : ℕ) → i ≤ n → k < place i → getD (remaining b p n) k 0 ≡ getD (remaining b p i) k 0
@@ -104,7 +104,7 @@ module _ (b : List ℕ) (p : ℕ) where
   Uncancelled n k = (getD (remaining b p n) k 0 < n) × (cancelled b p (getD (remaining b p n) k 0) ≡ false)
 
   pub uncancelled : (n k : ℕ) → k < place n → Uncancelled n k
-  unfolding remaining
+  unfolding leftOf
   uncancelled zero k h = absurd (omega arith)
   uncancelled (suc n) k h = go (decLt k (place n)) (cancelled b p n) refl (uncancelled n k) where
     more : place (suc n) ≡ place (n + 1)
@@ -123,17 +123,17 @@ module _ (b : List ℕ) (p : ℕ) where
   -- ---- none cancelled, or all
 
   pub all-remain : (n : ℕ) → ((i : ℕ) → i < n → cancelled b p i ≡ false) → remaining b p n ≡ tab (λ i. i) n
-  unfolding remaining tab
+  unfolding leftOf tab
   all-remain zero h = refl
   all-remain (suc n) h = rw (h n (le-refl (suc n)), all-remain n (λ i l. h i (omega arith)))
 
   pub none-remain : (n : ℕ) → ((i : ℕ) → i < n → cancelled b p i ≡ true) → remaining b p n ≡ []
-  unfolding remaining
+  unfolding leftOf
   none-remain zero h = refl
   none-remain (suc n) h = rw (h n (le-refl (suc n)), none-remain n (λ i l. h i (omega arith)))
 
 -- by the targets alone
-pub same-remain : (b b′ : List ℕ) (p n : ℕ) → ((i : ℕ) → i < n → targetOf b p i ≡ targetOf b′ p i) → remaining b p n ≡ remaining b′ p n
-unfolding remaining
-same-remain b b′ p zero h = refl
-same-remain b b′ p (suc n) h = rw (h n (le-refl (suc n)), same-remain b b′ p n (λ i l. h i (omega arith)))
+pub same-left : (t t′ : ℕ → ℕ) (n : ℕ) → ((i : ℕ) → i < n → t i ≡ t′ i) → leftOf t n ≡ leftOf t′ n
+unfolding leftOf
+same-left t t′ zero h = refl
+same-left t t′ (suc n) h = rw (h n (le-refl (suc n)), same-left t t′ n (λ i l. h i (omega arith)))

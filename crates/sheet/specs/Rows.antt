@@ -11,10 +11,10 @@ use Rattle.arrays.specs.Part.{tab}
 use Rattle.matrices.specs.Grid.{grid}
 use Rattle.refusal.specs.declared.Refusal.the-variants.{Size, Length, Claim, Pair}
 use Rattle.refusal.specs.declared.Checked.{Checked}
-use Rattle.refusal.specs.declared.Checked.the-variants.{Fine}
+use Rattle.refusal.specs.declared.Checked.the-variants.{Fine, Bad}
 use Rattle.refusal.specs.Checks.{ask}
 use Rattle.refusal.specs.Sizes.{inSize}
-use Rattle.sheet_header.specs.Bytes.{bigEndian, two-bytes, float-at}
+use Rattle.big_endian.specs.Bytes.{bigEndian, two-bytes, float-at}
 use Rattle.sheet_header.specs.Header.{row-at}
 
 -- ---- row i: its two claims, p features, its score
@@ -36,15 +36,24 @@ scoreOf b p i = f64 (scoreBits b p i)
 
 -- ---- the rows that remain
 
+-- the rows left of the first n, in order: those whose target is not 0
+unfoldable pub leftOf : (ℕ → ℕ) → ℕ → List ℕ
+leftOf target zero = []
+leftOf target (suc i) = leftOf target i ++ cond (eqb (target i) 0) [] (i ∷ [])
+
+-- of a body
 abbrev pub cancelled : List ℕ → ℕ → ℕ → Bool
 cancelled b p i = eqb (targetOf b p i) 0
 
--- the rows left of the first n, in order
-unfoldable pub remaining : List ℕ → ℕ → ℕ → List ℕ
-remaining b p zero = []
-remaining b p (suc i) = remaining b p i ++ cond (cancelled b p i) [] (i ∷ [])
+abbrev pub remaining : List ℕ → ℕ → ℕ → List ℕ
+remaining b p n = leftOf (targetOf b p) n
 
 -- ---- 14 and 15
+
+-- a check's answer, and the next one's where it is fine
+abbrev pub ahead : Checked → Checked → Checked
+ahead Fine rest = rest
+ahead (Bad r) rest = Bad r
 
 -- a claim number is from 1 to 999
 abbrev pub isClaim : ℕ → Bool
@@ -59,17 +68,21 @@ abbrev pub above : ℕ → ℕ → ℕ → ℕ → Bool
 above s t s′ t′ = ltb s s′ || (eqb s s′ && ltb t t′)
 
 -- row i's pair is above that of the row before; the first row has none before it
-abbrev pub rises : List ℕ → ℕ → ℕ → Bool
-rises b p zero = true
-rises b p (suc i) = above (sourceOf b p i) (targetOf b p i) (sourceOf b p (suc i)) (targetOf b p (suc i))
+abbrev pub rises : (ℕ → ℕ) → (ℕ → ℕ) → ℕ → Bool
+rises source target zero = true
+rises source target (suc i) = above (source i) (target i) (source (suc i)) (target (suc i))
 
--- 14, then 15, row by row: `left` rows from row i on; the place is the row, cancelled ones counted
-unfoldable pub rowsFrom : List ℕ → ℕ → ℕ → ℕ → Checked
-rowsFrom b p zero i = Fine
-rowsFrom b p (suc left) i =
-    ask (claimsFine (sourceOf b p i) (targetOf b p i) (scoreBits b p i)) (Claim i)
-    (ask (rises b p i) (Pair i)
-    (rowsFrom b p left (i + 1)))
+-- 14, then 15, row by row: `left` rows from row i on, each with its two claims and the bits of its score; the place is the row, cancelled ones counted
+unfoldable pub pairsFrom : (ℕ → ℕ) → (ℕ → ℕ) → (ℕ → ℕ) → ℕ → ℕ → Checked
+pairsFrom source target score zero i = Fine
+pairsFrom source target score (suc left) i =
+    ask (claimsFine (source i) (target i) (score i)) (Claim i)
+    (ask (rises source target i) (Pair i)
+    (pairsFrom source target score left (i + 1)))
+
+-- of a body's rows
+abbrev pub rowsFrom : List ℕ → ℕ → ℕ → ℕ → Checked
+rowsFrom b p left i = pairsFrom (sourceOf b p) (targetOf b p) (scoreBits b p) left i
 
 -- 1 and 2, for n rows that remain and lent slices of these lengths
 unfoldable pub roomCheck : ℕ → ℕ → ℕ → ℕ → Checked

@@ -5,10 +5,11 @@ use lib.ListN.{length}
 use lib.Ieee.{Float}
 use Rattle.refusal.specs.declared.Checked.{Checked}
 use Rattle.refusal.specs.declared.Checked.the-variants.{Fine, Bad}
+use Rattle.sheet_front.specs.Front.{bodyOf}
 use Rattle.sheet_header.specs.declared.Header.{Header}
 use Rattle.sheet_header.specs.declared.Read.{Read}
 use Rattle.sheet_header.specs.declared.Read.the-variants.{Sheet, Refused}
-use Rattle.sheet_header.specs.Header.{nOf, pOf, headerOf, bodyOf, headerCheck, readBy}
+use Rattle.sheet_header.specs.Header.{nOf, pOf, headerOf, headerCheck, readBy}
 use Rattle.sheet.specs.Rows.{rowsFrom, remaining, roomCheck, matrixOf, targetsOf}
 
 -- how many rows of a body remain: the n of 1, 2 and the fit

@@ -1,37 +1,39 @@
 // The training sheet's reader, over a slice of bytes. A row's place in the matrix comes from its order among the rows that remain, alone.
+use big_endian::big_endian;
+use big_endian::float_at;
+use big_endian::two_bytes;
 use refusal::Checked;
 use refusal::Refusal;
 use refusal::in_size;
-use sheet_header::BODY_AT;
+use sheet_front::body_at;
+use sheet_header::FIRST;
 use sheet_header::Header;
+use sheet_header::LAST;
 use sheet_header::N_AT;
 use sheet_header::P_AT;
 use sheet_header::Read;
-use sheet_header::big_endian;
-use sheet_header::float_at;
 use sheet_header::header_check;
 use sheet_header::header_of;
 use sheet_header::row_at;
-use sheet_header::two_bytes;
 ghost use mathlib.Core.Path.{_≡_};
 ghost use mathlib.Core.Bool.{false, cond};
 ghost use Prim.Native.Nat.{_+_, _*_, _≤_, _<_};
 ghost use lib.ListN.{length, set};
 ghost use Rattle.arrays.specs.Part.{put, tab};
-ghost use Rattle.sheet_header.specs.Bytes.{float-at};
+ghost use Rattle.big_endian.specs.Bytes.{float-at};
 ghost use Rattle.sheet_header.specs.Header.{nOf, pOf, row-at, row-bytes};
-ghost use Rattle.sheet.specs.Rows.{isClaim, claimsFine, above, rises, rowsFrom, cancelled, remaining, roomCheck, featureOf, scoreOf, matrixOf, targetsOf};
+ghost use Rattle.sheet.specs.Rows.{sourceOf, targetOf, isClaim, claimsFine, above, rises, rowsFrom, cancelled, remaining, roomCheck, featureOf, scoreOf, matrixOf, targetsOf};
 ghost use Rattle.sheet.specs.Sheet.{remains, bodyRows, rowsRead, Outcome.outcome, bodyRead, sheetOf};
 
 // Tells how many rows remain, so that a caller can lend for them: the header with that n. The refusals 11 to 15. Total, for all input.
 pub fn count_rows(b: &[u8], rows: usize, cols: usize) -> Read
     ensures { λ r. ⌜ r ≡ rowsRead (now (b .entry)) rows cols ⌝ }
 {
-    let c = header_check(b);
+    let c = header_check(b, FIRST, LAST);
     if let Checked::Bad(k) = c {
         return Read::Refused(k);
     }
-    count_body(&b[BODY_AT..], rows, cols)
+    count_body(&b[body_at(b)..], rows, cols)
 }
 
 // Reads a sheet into x and y, which must have n * p and n elements for the n rows that remain. Nothing is written before every refusal is tested. Total, for
@@ -41,7 +43,7 @@ pub fn read_sheet(b: &[u8], rows: usize, cols: usize, x: &mut [f64], y: &mut [f6
 {
     match count_rows(b, rows, cols) {
         Read::Refused(k) => Read::Refused(k),
-        Read::Sheet(h) => read_body(&b[BODY_AT..], h, x, y),
+        Read::Sheet(h) => read_body(&b[body_at(b)..], h, x, y),
     }
 }
 
@@ -82,7 +84,7 @@ fn read_body(b: &[u8], h: Header, x: &mut [f64], y: &mut [f64]) -> Read
 // ---- the refusals of the rows
 
 // The refusals 14 and 15 of all n rows.
-fn rows_check(b: &[u8], n: usize, p: usize) -> Checked
+pub fn rows_check(b: &[u8], n: usize, p: usize) -> Checked
     requires { ⌜ row-at p n ≤ length (now b) ⌝ }
     ensures { λ r. ⌜ r ≡ rowsFrom (now (b .entry)) p n 0 ⌝ }
 {
@@ -139,7 +141,7 @@ fn is_claim(c: usize) -> bool
 // Whether row i's pair is above that of the row before it. The first row has none before it.
 fn pair_rises(b: &[u8], p: usize, i: usize) -> bool
     requires { ⌜ row-at p i + row-bytes p ≤ length (now b) ⌝ }
-    ensures { λ r. ⌜ r ≡ rises (now (b .entry)) p i ⌝ }
+    ensures { λ r. ⌜ r ≡ rises (sourceOf (now (b .entry)) p) (targetOf (now (b .entry)) p) i ⌝ }
 {
     if i == 0 {
         return true;
@@ -155,7 +157,7 @@ fn pair_rises(b: &[u8], p: usize, i: usize) -> bool
 }
 
 // Whether the pair (u, v) is above (s, t): by the source first.
-fn pair_above(s: usize, t: usize, u: usize, v: usize) -> bool
+pub fn pair_above(s: usize, t: usize, u: usize, v: usize) -> bool
     ensures { λ r. ⌜ r ≡ above s t u v ⌝ }
 {
     if s < u {
@@ -173,7 +175,7 @@ fn is_cancelled(b: &[u8], p: usize, i: usize) -> bool
     two_bytes(b, row_at(p, i) + 2) == 0
 }
 
-fn count_remaining(b: &[u8], n: usize, p: usize) -> usize
+pub fn count_remaining(b: &[u8], n: usize, p: usize) -> usize
     requires { ⌜ row-at p n ≤ length (now b) ⌝ }
     ensures { λ r. ⌜ r ≡ length (remaining (now (b .entry)) p n) ⌝ }
 {

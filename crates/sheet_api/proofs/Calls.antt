@@ -1,47 +1,28 @@
--- What each call over words returns and leaves, from what the calls within it say. Assumes nothing.
-use mathlib.Core.Path.{_≡_, refl, sym, _∙_}
+-- What each call of the reader returns and leaves, from what the calls within it say. Assumes nothing.
+use mathlib.Core.Path.{_≡_, refl}
 use mathlib.Core.Bool.{Bool, true, false, _&&_}
-use mathlib.Core.List.{List, [], _∷_, append-nil}
-use Prim.Native.Nat.{ℕ, suc, _-_, _*_, _≤_}
+use mathlib.Core.List.{List, []}
+use Prim.Native.Nat.{ℕ, _*_}
 use native.Mathlib.Omega.{arith}
 use lib.Dec.{eqb}
-use lib.ListN.{length, set, drop-of-length-le}
+use lib.ListN.{length}
 use lib.Ieee.{Float}
 use borrow.Author.Tests.{eqb-true, eq-eqb, ne-eqb}
-use borrow.Rule.Slice.PartMut.{putMid}
-use Rattle.arrays.specs.Part.{put}
-use Rattle.arrays.proofs.Part.{put-all}
 use Rattle.refusal.specs.declared.Refusal.the-variants.{Size, Length}
 use Rattle.refusal.specs.declared.Checked.the-variants.{Fine}
 use Rattle.refusal.specs.Checks.{ask}
 use Rattle.refusal.specs.Sizes.{inSize}
 use Rattle.refusal.proofs.Asking.{refuted, both-true}
 use Rattle.refusal.proofs.Sizes.{size-of}
+use Rattle.sheet_front.specs.Front.{bodyOf}
 use Rattle.sheet_header.specs.declared.Header.{Header}
 use Rattle.sheet_header.specs.declared.Read.{Read}
 use Rattle.sheet_header.specs.declared.Read.the-variants.{Sheet, Refused}
-use Rattle.sheet_header.specs.Header.{bodyOf, headerRead}
+use Rattle.sheet_header.specs.Header.{headerRead}
 use Rattle.sheet.specs.Rows.{roomCheck}
 use Rattle.sheet.specs.Sheet.{rowsRead, outcome, byCheck, bodyRead, byCount, sheetOf}
-use Rattle.c_values.specs.Settings.{settingsWords}
-use Rattle.sheet_api.specs.Calls.{called, header-words, headerWords, numberIn, placeIn, headerIn, placeWords}
-use Rattle.sheet_api.specs.Calls.{answerIn, unread, readHeaderWords, readAs, countRowsWords, readSheetWords}
-
--- ---- the words
-
--- n and p, and the settings' words in the part behind them
-pub header-written : (h : Header) (l : List ℕ) {ws : List ℕ} → length l ≡ header-words → ws ≡ settingsWords (h .settings)
-    → let s = set (set l 0 (h .n)) 1 (h .p) in putMid 2 (length s - 2) s ws ≡ headerWords h
-unfolding headerWords
-header-written h [] e q = absurd (omega arith)
-header-written h (a ∷ []) e q = absurd (omega arith)
-header-written h (a ∷ b ∷ l) {ws} e q =
-    let k : length l ≤ suc (suc (length l)) - 2 = omega arith in
-    rw (drop-of-length-le l k, append-nil ws, q)
-
-pub place-written : (o : Read) (pw : List ℕ) {l : ℕ} → length pw ≡ 1 → l ≡ placeIn o → set pw 0 l ≡ placeWords o pw
-unfolding put
-place-written o pw {l} h e = put-all pw (l ∷ []) (sym h) ∙ rw (eq-eqb (length pw) 1 h, e)
+use Rattle.sheet_words.specs.Words.{header-words, numberIn, headerIn, placeWords, unread}
+use Rattle.sheet_api.specs.Calls.{called, answerIn, readHeaderWords, readAs, countRowsWords, readSheetWords}
 
 -- a refusal leaves the header's words
 refused-keeps : (o : Read) (hw : List ℕ) → headerIn (unread o) hw ≡ hw

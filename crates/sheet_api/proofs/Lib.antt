@@ -1,2 +1,4 @@
 mod Calls
+mod Writing
 pub mod Unique
+pub mod Refused

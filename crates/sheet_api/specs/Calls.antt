@@ -1,47 +1,19 @@
 -- What the calls over bytes and words return and leave. Definitions only.
 use mathlib.Core.Path.{_≡_}
 use mathlib.Core.Bool.{_&&_, cond}
-use mathlib.Core.List.{List, [], _∷_}
-use Prim.Native.Nat.{ℕ, _+_}
+use mathlib.Core.List.{List, []}
+use Prim.Native.Nat.{ℕ}
 use lib.Dec.{eqb}
 use lib.ListN.{length}
 use lib.Ieee.{Float}
-use Rattle.refusal.specs.declared.Refusal.the-variants.{Length}
-use Rattle.refusal.specs.Refusal.{numberOf, placeOf}
-use Rattle.sheet_header.specs.declared.Header.{Header}
 use Rattle.sheet_header.specs.declared.Read.{Read}
-use Rattle.sheet_header.specs.declared.Read.the-variants.{Sheet, Refused}
 use Rattle.sheet_header.specs.Header.{headerRead}
 use Rattle.sheet.specs.Sheet.{rowsRead, Outcome, outcome, sheetOf}
-use Rattle.c_values.specs.Settings.{settings-words, settingsWords}
+use Rattle.sheet_words.specs.Words.{header-words, numberIn, headerIn, placeWords, unread}
 
 -- the number of a refusal, or 0; the header's words, the place's word, matrix and targets
 pub data Called : Type 0 where
   called : ℕ → List ℕ → List ℕ → List Float → List Float → Called
-
--- n, p, and the settings as the fit's calls take them
-abbrev pub header-words : ℕ
-header-words = 2 + settings-words
-
-unfoldable pub headerWords : Header → List ℕ
-headerWords h = h .n ∷ h .p ∷ settingsWords (h .settings)
-
-abbrev pub numberIn : Read → ℕ
-numberIn (Sheet h) = 0
-numberIn (Refused r) = numberOf r
-
-abbrev pub placeIn : Read → ℕ
-placeIn (Sheet h) = 0
-placeIn (Refused r) = placeOf r
-
--- a refusal leaves the header's words as they were
-abbrev pub headerIn : Read → List ℕ → List ℕ
-headerIn (Sheet h) hw = headerWords h
-headerIn (Refused r) hw = hw
-
--- the place's word is written with every answer, where it is there
-abbrev pub placeWords : Read → List ℕ → List ℕ
-placeWords o pw = cond (eqb (length pw) 1) (placeIn o ∷ []) pw
 
 -- what is read, as the call returns and leaves it
 unfoldable pub readAs : List ℕ → List ℕ → Outcome → Called
@@ -49,11 +21,6 @@ readAs hw pw (outcome o x y) = called (numberIn o) (headerIn o hw) (placeWords o
 
 abbrev pub answerIn : Outcome → Read
 answerIn (outcome o x y) = o
-
--- with a slice of the wrong length: 2, where nothing before it refuses the sheet
-abbrev pub unread : Read → Read
-unread (Sheet h) = Refused Length
-unread (Refused r) = Refused r
 
 -- the sheet's bytes, R, C, header; what a header alone refuses has no place
 unfoldable pub readHeaderWords : List ℕ → ℕ → ℕ → List ℕ → Called

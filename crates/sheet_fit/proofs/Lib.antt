@@ -1,4 +1,5 @@
 mod Returns
 pub mod Within
 pub mod Unique
+pub mod Alike
 pub mod Cancelled

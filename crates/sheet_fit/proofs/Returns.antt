@@ -16,26 +16,27 @@ use Rattle.refusal.specs.declared.Refusal.{Refusal}
 use Rattle.refusal.specs.declared.Refusal.the-variants.{TooLarge}
 use Rattle.refusal.specs.declared.Checked.{Checked}
 use Rattle.refusal.specs.declared.Checked.the-variants.{Fine, Bad}
-use Rattle.settings.specs.declared.Settings.{Settings}
-use Rattle.records.specs.declared.Counts.{Counts}
 use Rattle.refusal.specs.declared.Way.{Way}
 use Rattle.refusal.specs.declared.Way.the-variants.{Converged, Limit}
+use Rattle.settings.specs.declared.Settings.{Settings}
+use Rattle.records.specs.declared.Counts.{Counts}
 use Rattle.elastic_net.specs.ElasticNet.{Outcome}
 use Rattle.whole_fit.specs.declared.Final.{Final}
 use Rattle.whole_fit.specs.declared.Final.the-variants.{Done, Refused as RefusedF}
 use Rattle.whole_fit.specs.declared.Whole.{Whole}
 use Rattle.whole_fit.specs.Fit.{saidFinal, wholeOutcome, wholeOf}
-use Rattle.answer_text.specs.Text.{Written, laid, doneText, doneOf}
+use Rattle.sheet_front.specs.Front.{bodyOf}
 use Rattle.sheet_header.specs.declared.Header.{Header}
 use Rattle.sheet_header.specs.declared.Read.{Read}
 use Rattle.sheet_header.specs.declared.Read.the-variants.{Sheet, Refused}
-use Rattle.sheet_header.specs.Header.{nOf, pOf, headerOf, bodyOf, headerCheck, headerRead}
+use Rattle.sheet_header.specs.Header.{nOf, pOf, headerOf, headerCheck, headerRead}
+use Rattle.sheet_header.proofs.Passed.{passed}
 use Rattle.sheet.specs.Rows.{roomCheck}
 use Rattle.sheet.specs.Sheet.{rowsRead, byCheck, bodyRead, byCount, sheetOf}
 use Rattle.sheet.proofs.Remaining.{place-most}
-use Rattle.sheet_header.proofs.Passed.{passed}
 use Rattle.sheet.proofs.Outcomes.{counted-header}
 use Rattle.sheet.specs.Sheet.{Outcome as SheetOutcome, Outcome.outcome as sheet-outcome}
+use Rattle.answer_text.specs.Text.{Written, laid, doneText, doneOf}
 use Rattle.sheet_fit.specs.SheetFit.{refusalText, bitsOf, endedText, answerText, wholeText, fitText, readText, lentText, sizedText, sheetText}
 
 -- ---- what was written is another's text
@@ -105,18 +106,18 @@ module _ (b : List ℕ) (n p : ℕ) where
 -- ---- of all bytes
 
 module _ (b : List ℕ) where
-  pub many-bytes : 35878 < length b → refusalText TooLarge ≡ sheetText b
+  pub many-bytes : 35882 < length b → refusalText TooLarge ≡ sheetText b
   unfolding sheetText
-  many-bytes l = rw (lt-ltb 35878 (length b) l)
+  many-bytes l = rw (lt-ltb 35882 (length b) l)
 
-  module _ (l : length b ≤ 35878) {r : Read} (e : r ≡ headerRead b 32 8) where
+  module _ (l : length b ≤ 35882) {r : Read} (e : r ≡ headerRead b 32 8) where
     pub header-refused : {q : Refusal} → r ≡ Refused q → refusalText q ≡ sheetText b
     unfolding sheetText
-    header-refused f = rw (le-ltb 35878 (length b) l, ← e, f)
+    header-refused f = rw (le-ltb 35882 (length b) l, ← e, f)
 
     pub header-sized : {h : Header} → r ≡ Sheet h → sizedText b (h .n) (h .p) ≡ sheetText b
     unfolding sheetText
-    header-sized f = rw (le-ltb 35878 (length b) l, ← e, f)
+    header-sized f = rw (le-ltb 35882 (length b) l, ← e, f)
 
 -- ---- n and p are those of the header, or fewer rows
 

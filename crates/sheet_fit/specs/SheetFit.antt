@@ -70,9 +70,9 @@ abbrev pub headedText : List ℕ → Read → List ℕ
 headedText b (Refused r) = refusalText r
 headedText b (Sheet h) = sizedText b (h .n) (h .p)
 
--- 16 beyond 35,878 bytes, ahead of everything
+-- 16 beyond 35,882 bytes, whatever the version, ahead of everything
 unfoldable pub sheetText : List ℕ → List ℕ
-sheetText b = cond (ltb 35878 (length b)) (refusalText TooLarge) (headedText b (headerRead b 32 8))
+sheetText b = cond (ltb 35882 (length b)) (refusalText TooLarge) (headedText b (headerRead b 32 8))
 
 -- the contract of `fit_sheet`: for the bytes b it answers k, and leaves out′ where `out` was lent
 abbrev pub FitsSheet : List ℕ → List ℕ → ℕ → List ℕ → Type 0

@@ -19,7 +19,8 @@ ghost use Prim.Native.Nat.{_≤_};
 ghost use lib.ListN.{length};
 ghost use Rattle.answer_text.specs.Text.{Written.written, laid};
 ghost use Rattle.whole_fit.specs.Fit.{saidFinal, wholeOf};
-ghost use Rattle.sheet_header.specs.Header.{nOf, pOf, bodyOf};
+ghost use Rattle.sheet_front.specs.Front.{bodyOf};
+ghost use Rattle.sheet_header.specs.Header.{nOf, pOf};
 ghost use Rattle.sheet.specs.Sheet.{sheetOf};
 ghost use Rattle.sheet_fit.specs.SheetFit.{refusalText, bitsOf, endedText, answerText, wholeText, fitText, readText, lentText, sizedText, sheetText};
 
@@ -151,7 +152,7 @@ fn headed(b: &[u8], n: usize, p: usize, out: &mut [u8]) -> usize
 pub fn fit_sheet(b: &[u8], out: &mut [u8]) -> usize
     ensures { λ k. ⌜ written k (now (out .exit)) ≡ laid (sheetText (now (b .entry))) (now (out .entry)) ⌝ }
 {
-    if b.len() > 35878 {
+    if b.len() > 35882 {
         return refused(out, Refusal::TooLarge);
     }
     match read_header(b, 32, 8) {

@@ -1,4 +1,5 @@
 pub mod Passed
+pub mod Flags
 pub mod Outcomes
 pub mod Checks
 pub mod Laws

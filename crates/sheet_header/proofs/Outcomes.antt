@@ -5,6 +5,7 @@ use Prim.Native.Nat.{ℕ}
 use Rattle.refusal.specs.declared.Refusal.{Refusal}
 use Rattle.refusal.specs.declared.Checked.{Checked}
 use Rattle.refusal.specs.declared.Checked.the-variants.{Fine, Bad}
+use Rattle.sheet_front.specs.Front.{versionOf, bodyAt}
 use Rattle.sheet_header.specs.declared.Header.{Header}
 use Rattle.sheet_header.specs.declared.Read.the-variants.{Sheet, Refused}
 use Rattle.sheet_header.specs.Header.{nOf, headerOf, headerCheck, headerRead}
@@ -15,6 +16,7 @@ module _ (b : List ℕ) (R C : ℕ) (k : Checked) (e : k ≡ headerCheck b) wher
   unfolding headerRead
   header-refused f = rw (← e, f)
 
-  pub header-read : (h : Header) (n : ℕ) → k ≡ Fine → n ≡ nOf (lent-from b) → h ≡ headerOf (lent-from b) n R C → Sheet h ≡ headerRead b R C
+  pub header-read : (at : ℕ) (h : Header) (n : ℕ) → at ≡ bodyAt (versionOf b) → k ≡ Fine → n ≡ nOf (lent-from b at) → h ≡ headerOf (lent-from b at) n R C
+      → Sheet h ≡ headerRead b R C
   unfolding headerRead
-  header-read h n f m g = rw (← e, f, g, m, body-lent b)
+  header-read at h n a f m g = rw (← e, f, g, m, body-lent b at a)

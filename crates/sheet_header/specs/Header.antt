@@ -1,20 +1,23 @@
 -- The training sheet up to its rows: the format of its header, the refusals 11 to 13 in 01's order, and what the header decodes to. Definitions only.
+use mathlib.Core.Bool.{_&&_}
 use mathlib.Core.List.{List}
-use Prim.Native.Nat.{ℕ, _+_, _*_, _%_}
+use Prim.Native.Nat.{ℕ, _+_, _*_}
 use lib.Dec.{leb, eqb}
-use lib.ListN.{length, getD, drop}
+use lib.ListN.{length, getD}
 use lib.Ieee.{Float}
 use Rattle.refusal.specs.declared.Refusal.the-variants.{Version, SheetLength, Flags}
 use Rattle.refusal.specs.declared.Checked.{Checked}
 use Rattle.refusal.specs.declared.Checked.the-variants.{Fine, Bad}
 use Rattle.refusal.specs.Refusal.{numberOf, placeOf}
 use Rattle.refusal.specs.Checks.{ask}
+use Rattle.big_endian.specs.Bytes.{two-bytes, four-bytes, float-at}
+use Rattle.sheet_front.specs.Front.{versionOf, restOf, bodyOf}
 use Rattle.sheet_header.specs.declared.Header.{Header}
 use Rattle.sheet_header.specs.declared.Read.{Read}
 use Rattle.sheet_header.specs.declared.Read.the-variants.{Sheet, Refused}
-use Rattle.sheet_header.specs.Bytes.{two-bytes, four-bytes, float-at}
+use Rattle.sheet_header.specs.Flags.{flagsFine, normaliseIn, lazyIn}
 
--- ---- a body, which is what stands behind a sheet's length
+-- ---- a body, which is the same in both versions
 -- n from 0, p from 2, alpha from 4, l1_ratio from 12, tol from 20, M from 28, flags at 32, the rows from 33
 
 -- n counts all rows, cancelled ones too
@@ -50,7 +53,7 @@ row-at p i = 33 + i * row-bytes p
 unfoldable pub bodyCheck : List ℕ → Checked
 bodyCheck b =
     ask (eqb (length b) (row-at (pOf b) (nOf b))) SheetLength
-    (ask (leb (flagsOf b) 3) Flags Fine)
+    (ask (flagsFine (flagsOf b)) Flags Fine)
 
 -- the header of a body, with n for its rows; R and C are the caller's; the settings are not checked here
 unfoldable pub headerOf : List ℕ → ℕ → ℕ → ℕ → Header
@@ -64,23 +67,25 @@ headerOf b n R C = record {
     «max_iter» = maxIterOf b;
     «panel_rows» = R;
     «panel_cols» = C;
-    normalise = eqb (flagsOf b % 2) 1;
-    lazy = leb 2 (flagsOf b);
+    normalise = normaliseIn (flagsOf b);
+    lazy = lazyIn (flagsOf b);
   };
 }
 
--- ---- a sheet: its version at 0, the number of its body's bytes from 1, its body from 5
+-- ---- a sheet: its front, and its body
 
-abbrev pub bodyOf : List ℕ → List ℕ
-bodyOf b = drop 5 b
-
--- 12 under 5 bytes, 11, 12 where the length is not that of the body, 12 and 13 of the body
-unfoldable pub headerCheck : List ℕ → Checked
-headerCheck b =
+-- where the versions from `first` to `last` are accepted: 12 under 5 bytes, 11, 12 where another number of bytes follows than the length says, 12 and 13 of the
+-- body
+unfoldable pub acceptCheck : ℕ → ℕ → List ℕ → Checked
+acceptCheck first last b =
     ask (leb 5 (length b)) SheetLength
-    (ask (eqb (getD b 0 0) 1) Version
-    (ask (eqb (four-bytes b 1) (length (bodyOf b))) SheetLength
+    (ask (leb first (versionOf b) && leb (versionOf b) last) Version
+    (ask (eqb (restOf b + 5) (length b)) SheetLength
     (bodyCheck (bodyOf b))))
+
+-- a reader takes both
+abbrev pub headerCheck : List ℕ → Checked
+headerCheck b = acceptCheck 1 2 b
 
 -- an answer where nothing is refused before it
 abbrev pub readBy : Checked → Read → Read

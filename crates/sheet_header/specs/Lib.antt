@@ -1,2 +1,2 @@
-pub mod Bytes
+pub mod Flags
 pub mod Header

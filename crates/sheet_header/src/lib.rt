@@ -1,34 +1,40 @@
-// The training sheet up to its rows: a version, a length, and behind them the body, with its header in front; and the numbers in its bytes.
-use numbers::bits::of_bits;
+// The training sheet up to its rows: the checks of its front and of the header in front of its body, and what the header says.
+use big_endian::big_endian;
+use big_endian::float_at;
+use big_endian::two_bytes;
 use refusal::Checked;
 use refusal::Refusal;
 use settings::Settings;
+use sheet_front::body_at;
 ghost use mathlib.Core.Path.{_≡_};
+ghost use mathlib.Core.Bool.{cond};
 ghost use Prim.Native.Nat.{_+_, _^_, _≤_, _<_};
 ghost use lib.ListN.{length};
-ghost use Rattle.sheet_header.specs.Bytes.{bigEndian, two-bytes, float-at};
-ghost use Rattle.sheet_header.specs.Header.{row-at, row-bytes, bodyCheck, headerCheck, headerOf, headerRead};
+ghost use Rattle.sheet_header.specs.Flags.{flagsFine, flagsFor};
+ghost use Rattle.sheet_header.specs.Header.{row-at, row-bytes, bodyCheck, acceptCheck, headerOf, headerRead};
 
-// Where the body begins in a sheet.
-pub const BODY_AT: usize = 5;
+// The versions that a reader takes are from the one to the other.
+pub const FIRST: u8 = 1;
 
-// Where its fields stand in the body.
+pub const LAST: u8 = 2;
+
+// Where the fields stand in a body.
 pub const N_AT: usize = 0;
 
 pub const P_AT: usize = 2;
 
-const ALPHA_AT: usize = 4;
+pub const ALPHA_AT: usize = 4;
 
-const L1_RATIO_AT: usize = 12;
+pub const L1_RATIO_AT: usize = 12;
 
-const TOL_AT: usize = 20;
+pub const TOL_AT: usize = 20;
 
-const MAX_ITER_AT: usize = 28;
+pub const MAX_ITER_AT: usize = 28;
 
-const FLAGS_AT: usize = 32;
+pub const FLAGS_AT: usize = 32;
 
 // Where its rows begin.
-const ROWS_AT: usize = 33;
+pub const ROWS_AT: usize = 33;
 
 pub struct Header {
     pub n: usize,
@@ -45,31 +51,37 @@ pub enum Read {
 pub fn read_header(b: &[u8], rows: usize, cols: usize) -> Read
     ensures { λ r. ⌜ r ≡ headerRead (now (b .entry)) rows cols ⌝ }
 {
-    let c = header_check(b);
+    let c = header_check(b, FIRST, LAST);
     if let Checked::Bad(k) = c {
         return Read::Refused(k);
     }
-    let body = &b[BODY_AT..];
+    let body = &b[body_at(b)..];
     Read::Sheet(header_of(body, two_bytes(body, N_AT), rows, cols))
 }
 
 // ---- the refusals; in `body_check` and `header_of` b is a body
 
-// Refusals 11 to 13. Fewer than five bytes are refused for their length, before the version is read.
-pub fn header_check(b: &[u8]) -> Checked
-    ensures { λ r. ⌜ r ≡ headerCheck (now (b .entry)) ⌝ }
+// Refusals 11 to 13, where the versions from `first` to `last` are accepted. Fewer than five bytes are refused for their length, before the version is read.
+pub fn header_check(b: &[u8], first: u8, last: u8) -> Checked
+    ensures { λ r. ⌜ r ≡ acceptCheck first last (now (b .entry)) ⌝ }
 {
-    if b.len() < BODY_AT {
+    if b.len() < 5 {
         return Checked::Bad(Refusal::SheetLength);
     }
-    if b[0] != 1 {
+    if b[0] < first {
         return Checked::Bad(Refusal::Version);
     }
-    let body = &b[BODY_AT..];
-    if big_endian(b, 1, 4) != body.len() as u64 {
+    if b[0] > last {
+        return Checked::Bad(Refusal::Version);
+    }
+    if big_endian(b, 1, 4) + 5 != b.len() as u64 {
         return Checked::Bad(Refusal::SheetLength);
     }
-    body_check(body)
+    let at = body_at(b);
+    if b.len() < at {
+        return Checked::Bad(Refusal::SheetLength);
+    }
+    body_check(&b[at..])
 }
 
 // The body's length against its n and p, then its flags.
@@ -82,10 +94,38 @@ fn body_check(b: &[u8]) -> Checked
     if b.len() != row_at(two_bytes(b, P_AT), two_bytes(b, N_AT)) {
         return Checked::Bad(Refusal::SheetLength);
     }
-    if b[FLAGS_AT] > 3 {
+    if !flags_fine(b[FLAGS_AT]) {
         return Checked::Bad(Refusal::Flags);
     }
     Checked::Fine
+}
+
+// Where row i begins.
+pub fn row_at(p: usize, i: usize) -> usize
+    requires { ⌜ row-at p i + row-bytes p < 2 ^ 64 ⌝ }
+    ensures { λ r. ⌜ r ≡ row-at p i ⌝ }
+{
+    ROWS_AT + i * (12 + 8 * p)
+}
+
+// ---- the flags, both ways: 1 says normalise, 2 lazy
+
+fn flags_fine(flags: u8) -> bool
+    ensures { λ r. ⌜ r ≡ flagsFine flags ⌝ }
+{
+    flags <= 3
+}
+
+pub fn flags_for(st: Settings) -> u8
+    ensures { λ r. ⌜ r ≡ flagsFor st ⌝ }
+{
+    flag(st.normalise, 1) + flag(st.lazy, 2)
+}
+
+fn flag(set: bool, worth: u8) -> u8
+    ensures { λ r. ⌜ (r ≡ cond set worth 0) × (r ≤ worth) ⌝ }
+{
+    if set { worth } else { 0 }
 }
 
 // ---- the header
@@ -111,41 +151,4 @@ pub fn header_of(b: &[u8], n: usize, rows: usize, cols: usize) -> Header
         p: two_bytes(b, P_AT),
         settings,
     }
-}
-
-// ---- places and numbers
-
-// Where row i begins.
-pub fn row_at(p: usize, i: usize) -> usize
-    requires { ⌜ row-at p i + row-bytes p < 2 ^ 64 ⌝ }
-    ensures { λ r. ⌜ r ≡ row-at p i ⌝ }
-{
-    ROWS_AT + i * (12 + 8 * p)
-}
-
-pub fn two_bytes(b: &[u8], at: usize) -> usize
-    requires { ⌜ at + 2 ≤ length (now b) ⌝ }
-    ensures { λ r. ⌜ (r ≡ two-bytes (now (b .entry)) at) × (r < 65536) ⌝ }
-{
-    big_endian(b, at, 2) as usize
-}
-
-pub fn float_at(b: &[u8], at: usize) -> f64
-    requires { ⌜ at + 8 ≤ length (now b) ⌝ }
-    ensures { λ r. ⌜ r ≡ float-at (now (b .entry)) at ⌝ }
-{
-    of_bits(big_endian(b, at, 8))
-}
-
-// The number in k bytes from `at`, the highest first.
-pub fn big_endian(b: &[u8], at: usize, k: usize) -> u64
-    requires { ⌜ at + k ≤ length (now b) ⌝ }
-    requires { ⌜ k ≤ 8 ⌝ }
-    ensures { λ r. ⌜ (r ≡ bigEndian (now (b .entry)) at k) × (r < 256 ^ k) ⌝ }
-{
-    let mut v = 0u64;
-    for j in 0..k {
-        v = v * 256 + b[at + j] as u64;
-    }
-    v
 }

@@ -17,7 +17,13 @@ use refusal::place;
 use settings::Settings;
 use sheet::count_rows;
 use sheet::read_sheet;
+use sheet_front::Version;
 use sheet_header::Read;
+use sheet_move::Moved;
+use sheet_move::move_down;
+use sheet_move::move_up;
+use sheet_write::Written;
+use sheet_write::write_sheet;
 use whole_fit::Final;
 use whole_fit::fit;
 ghost use mathlib.Core.Path.{_≡_};
@@ -132,8 +138,53 @@ fn solver() {
 
 // The pairs are (1, 1), (2, 0), which is cancelled, with a feature that is no number, and (3, 2). Two rows remain, 0 and 1: a claim number is never a position.
 fn sheet_bytes() {
-    let bytes =
-        b"\x01\x00\x00\x00\x5d\x00\x03\x00\x01\x3f\xf0\x00\x00\x00\x00\x00\x00\x3f\xf0\x00\x00\x00\x00\x00\x00\x3f\xe0\x00\x00\x00\x00\x00\x00\x00\x00\x00\x00\x00\x00\x01\x00\x01\x3f\xf0\x00\x00\x00\x00\x00\x00\x3f\xf0\x00\x00\x00\x00\x00\x00\x00\x02\x00\x00\x7f\xf8\x00\x00\x00\x00\x00\x00\x00\x00\x00\x00\x00\x00\x00\x00\x00\x03\x00\x02\x40\x00\x00\x00\x00\x00\x00\x00\x40\x08\x00\x00\x00\x00\x00\x00";
+    let sources = [1u16, 2, 3];
+    let targets = [1u16, 0, 2];
+    let x = [1.0, 0.0 / 0.0, 2.0];
+    let y = [1.0, 0.0, 3.0];
+    let mut sheet = [0u8; 98];
+    written(write_sheet(
+        Version::One,
+        3,
+        1,
+        settings(),
+        &sources,
+        &targets,
+        &x,
+        &y,
+        &mut sheet,
+    ));
+    let mut family = [0u8; 102];
+    moved(move_up(&sheet, 7, &mut family));
+    rows(&family);
+    moved(move_down(&family, &mut sheet));
+}
+
+fn written(o: Written) {
+    match o {
+        Written::Sheet(k) => {
+            io::write_all(1, b"written, ");
+            io::print_decimal(1, k as u64);
+            io::write_all(1, b" bytes\n");
+        }
+        Written::Refused(r) => refused(r),
+    }
+}
+
+fn moved(o: Moved) {
+    match o {
+        Moved::Sheet(k, family) => {
+            io::write_all(1, b"moved, ");
+            io::print_decimal(1, k as u64);
+            io::write_all(1, b" bytes, family ");
+            io::print_decimal(1, family as u64);
+            io::write_all(1, b"\n");
+        }
+        Moved::Refused(r) => refused(r),
+    }
+}
+
+fn rows(bytes: &[u8]) {
     rows_left(count_rows(bytes, 32, 8));
     let mut x = [0.0; 2];
     let mut y = [0.0; 2];

@@ -2,7 +2,7 @@
 use Prim.Native.Nat.{_+_, _-_, _*_}
 use native.Mathlib.Omega.{arith}
 use Rattle.arrays.proofs.Turns.{Made, made-none, made-more, made-all}
-use Rattle.sheet_header.specs.Bytes.{float-at}
+use Rattle.big_endian.specs.Bytes.{float-at}
 use Rattle.sheet.proofs.fill_features.Statement.{statement}
 use Rattle.sheet.proofs.fill_features.Tie as tie
 

@@ -1,9 +1,10 @@
 -- `sheet::read_sheet` meets its contract: what was counted is the header of the part that is lent. Assumes nothing.
+use Prim.Native.Nat.{_≤_}
 use native.Mathlib.Omega.{arith}
 use borrow.Author.Needs.{needs}
-use lib.ListN.{length-drop}
-use Rattle.sheet_header.specs.Header.{bodyOf}
-use Rattle.sheet_header.proofs.Passed.{body-lent, Laid}
+use lib.ListN.{length}
+use Rattle.sheet_front.specs.Front.{bodyOf}
+use Rattle.sheet_header.proofs.Passed.{body-lent, Laid, body-begun, body-within}
 use Rattle.sheet.proofs.Outcomes.{counted-header, sheet-refused, lent-read}
 use Rattle.sheet.proofs.read_sheet.Statement.{statement}
 use Rattle.sheet.proofs.read_sheet.Tie as tie
@@ -25,21 +26,28 @@ enum-known-k c = search needs
 enum-known-h : tie.Need-enum-known-h
 enum-known-h c = search needs
 
+body-at-requires : tie.Need-body-at-requires
+body-at-requires c κs = body-begun (from (c .before .before .before) .args .b .now) (laid (c .before))
+
+within : (c : tie.After-body-at) → c .body-at .result ≤ length (from (c .before .before .before .before) .args .b .now)
+within c = body-within (from (c .before .before .before .before) .args .b .now) _ (c .body-at .ensures) (laid (c .before .before))
+
 sub-read-body : tie.Need-sub-read-body
-sub-read-body c = omega (arith, laid (c .before), length-drop 5 (from (c .before .before .before) .args .b .now))
+sub-read-body c = omega (arith, within c)
 
 part-read-body-start : tie.Need-part-read-body-start
-part-read-body-start c = omega (arith, laid (c .before), length-drop 5 (from (c .before .before .before) .args .b .now))
+part-read-body-start c = omega (arith, within c)
 
 part-read-body-end : tie.Need-part-read-body-end
 part-read-body-end c = omega arith
 
 read-body-requires : tie.Need-read-body-requires
 read-body-requires c κs =
-    let t = c .before .before .before .before in
+    let a = c .before .before .before in
+    let t = a .before .before in
     let k = t .before .before .count-rows in
     let h = counted-header _ _ _ (k .result) (k .ensures) (t .h .given .1) in
-    rw (body-lent (from (t .before .before) .args .b .now)) (h .0, (h .1, h .2))
+    rw (body-lent (from (t .before .before) .args .b .now) (a .body-at .result) (a .body-at .ensures)) (h .0, (h .1, h .2))
 
 returns : tie.Need-returns
 returns c =
@@ -55,9 +63,10 @@ same-length-2 c = omega arith
 returns-2 : tie.Need-returns-2
 returns-2 c =
     let r = c .before .before .before .before in
-    let t = r .before .before .before .before .before in
+    let a = r .before .before .before .before in
+    let t = a .before .before in
     let k = t .before .before .count-rows in
-    lent-read _ _ _ (k .result) (k .ensures) _ _ (t .h .given .1) (r .read-body .ensures)
+    lent-read _ _ _ (k .result) (k .ensures) _ _ (a .body-at .result) (a .body-at .ensures) (t .h .given .1) (r .read-body .ensures)
 
 pub read-sheet-spec : {M : Type 1} → statement M
 read-sheet-spec =
@@ -66,6 +75,7 @@ read-sheet-spec =
     count-rows-requires
     enum-known-k
     enum-known-h
+    body-at-requires
     sub-read-body
     part-read-body-start
     part-read-body-end

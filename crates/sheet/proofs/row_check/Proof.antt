@@ -3,7 +3,7 @@ use mathlib.Core.Path.{_≡_, sym, _∙_}
 use mathlib.Core.Bool.{true}
 use native.Mathlib.Omega.{arith}
 use borrow.Author.Tests.{not-true, not-false}
-use Rattle.sheet.specs.Rows.{rowsFrom}
+use Rattle.sheet.specs.Rows.{pairsFrom}
 use Rattle.sheet.proofs.Rows.{claims}
 use Rattle.sheet.proofs.row_check.Statement.{statement}
 use Rattle.sheet.proofs.row_check.Tie as tie
@@ -50,18 +50,18 @@ claims-fine-requires : tie.Need-claims-fine-requires
 claims-fine-requires c κs = tt
 
 returns : tie.Need-returns
-unfolding rowsFrom
+unfolding pairsFrom
 returns c = rw (sym (claims-test (c .before)) ∙ not-true _ (c .if1 .taken))
 
 pair-rises-requires : tie.Need-pair-rises-requires
 pair-rises-requires c κs = omega arith
 
 returns-2 : tie.Need-returns-2
-unfolding rowsFrom
+unfolding pairsFrom
 returns-2 c = rw (claims-good (c .before .before), sym (c .before .pair-rises .ensures) ∙ not-true _ (c .if2 .taken))
 
 returns-3 : tie.Need-returns-3
-unfolding rowsFrom
+unfolding pairsFrom
 returns-3 c = rw (claims-good (c .before .before), sym (c .before .pair-rises .ensures) ∙ not-false _ (c .if2 .left))
 
 pub row-check-spec : {M : Type 1} → statement M

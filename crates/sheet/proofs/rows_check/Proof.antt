@@ -1,21 +1,13 @@
 -- `sheet::rows_check` meets its contract. The invariant: the answer is that of the rows that are left, from i on. The measure: n - i. Assumes nothing.
 use mathlib.Core.Path.{_≡_, sym, _∙_}
-use mathlib.Core.List.{List}
-use Prim.Native.Nat.{ℕ, _+_, _-_, _*_, _≤_}
+use Prim.Native.Nat.{_+_, _-_, _*_, _≤_}
 use native.Mathlib.Omega.{arith}
 use borrow.Author.Needs.{needs}
 use Rattle.matrices.proofs.Lengths.{row-room}
-use Rattle.refusal.specs.declared.Checked.the-variants.{Fine}
 use Rattle.sheet.specs.Rows.{rowsFrom}
-use Rattle.sheet.proofs.Rows.{row-passed, row-refused}
+use Rattle.sheet.proofs.Rows.{row-passed, row-refused, none-left}
 use Rattle.sheet.proofs.rows_check.Statement.{statement}
 use Rattle.sheet.proofs.rows_check.Tie as tie
-
-none-left : (b : List ℕ) (p n i : ℕ) → n ≤ i → rowsFrom b p (n - i) i ≡ Fine
-unfolding rowsFrom
-none-left b p n i h =
-    let e : n - i ≡ 0 = omega arith in
-    rw e
 
 abbrev Inv-loop : tie.InvT-loop
 Inv-loop b n p i₀ i = (i ≤ n) × (rowsFrom b p n 0 ≡ rowsFrom b p (n - i) i)
@@ -46,7 +38,7 @@ returns c =
     let k = c .before .before in
     let l = k .before .before in
     let w = k .row-check in
-    sym (l .loop .inv .1 ∙ row-refused _ _ _ _ (k .before .loop-test .taken) (w .result) (w .ensures) (c .enum-told2 .given .1))
+    sym (l .loop .inv .1 ∙ row-refused _ _ _ _ _ (k .before .loop-test .taken) (w .result) (w .ensures) (c .enum-told2 .given .1))
 
 add-i : tie.Need-add-i Inv-loop μ-loop
 add-i c = omega arith
@@ -59,10 +51,10 @@ loop-again c =
     let k = c .before .before in
     let l = k .before .before in
     let w = k .row-check in
-    (omega arith, l .loop .inv .1 ∙ row-passed _ _ _ _ (k .before .loop-test .taken) (w .result) (w .ensures) (c .enum-told .given .1))
+    (omega arith, l .loop .inv .1 ∙ row-passed _ _ _ _ _ (k .before .loop-test .taken) (w .result) (w .ensures) (c .enum-told .given .1))
 
 returns-2 : tie.Need-returns-2 Inv-loop μ-loop
-returns-2 c = sym (c .before .loop .inv .1 ∙ none-left _ _ _ _ (c .loop-test .left))
+returns-2 c = sym (c .before .loop .inv .1 ∙ none-left _ _ _ _ _ (c .loop-test .left))
 
 pub rows-check-spec : {M : Type 1} → statement M
 rows-check-spec =

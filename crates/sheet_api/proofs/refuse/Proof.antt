@@ -25,21 +25,18 @@ part-y-end c = search needs
 read-sheet-requires : tie.Need-read-sheet-requires
 read-sheet-requires c κs = tt
 
-write-place-requires : tie.Need-write-place-requires
-write-place-requires c κs = tt
-
-number-in-requires : tie.Need-number-in-requires
-number-in-requires c κs = tt
+answer-read-requires : tie.Need-answer-read-requires
+answer-read-requires c κs = tt
 
 same-length : tie.Need-same-length
-same-length c = c .before .before .before .write-place .kept .1 .0
+same-length c = c .before .before .answer-read .kept .1 .0
 
 returns : tie.Need-returns
 returns c =
-    let w = c .before .before .before in
+    let w = c .before .before in
     let r = w .before .before .before .before in
     let g = r .before .before .before .before .before .args in
-    refused-told (g .bytes .now) (g .rows) (g .cols) (g .place .now) (r .read-sheet .ensures) (w .write-place .ensures) (c .number-in .ensures)
+    refused-told (g .bytes .now) (g .rows) (g .cols) (g .place .now) (r .read-sheet .ensures) (w .answer-read .ensures .1) (w .answer-read .ensures .0)
 
 pub refuse-spec : {M : Type 1} → statement M
 refuse-spec =
@@ -52,7 +49,6 @@ refuse-spec =
     part-y-start
     part-y-end
     read-sheet-requires
-    write-place-requires
-    number-in-requires
+    answer-read-requires
     same-length
     returns)

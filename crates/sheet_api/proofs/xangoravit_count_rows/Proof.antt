@@ -23,24 +23,21 @@ due-requires c κs = tt
 unheld-requires : tie.Need-unheld-requires
 unheld-requires c κs = tt
 
-write-place-requires : tie.Need-write-place-requires
-write-place-requires c κs = tt
-
-number-in-requires : tie.Need-number-in-requires
-number-in-requires c κs = tt
+answer-read-requires : tie.Need-answer-read-requires
+answer-read-requires c κs = tt
 
 same-length : tie.Need-same-length
 same-length c = search needs
 
 returns : tie.Need-returns
 returns c =
-    let w = c .before .before .before in
+    let w = c .before .before in
     let u = w .before .before in
     let t = u .before in
     let r = t .before .before in
     let g = from (t .before) .args in
     count-not-due (g .bytes .now) (g .rows) (g .cols) (g .header .now) (g .place .now) (sym (t .before .due .ensures) ∙ not-true _ (t .if1 .taken))
-    (r .count-rows .ensures) (u .unheld .ensures) (w .write-place .ensures) (c .number-in .ensures)
+    (r .count-rows .ensures) (u .unheld .ensures) (w .answer-read .ensures .1) (w .answer-read .ensures .0)
 
 tell-requires : tie.Need-tell-requires
 tell-requires c κs =
@@ -70,8 +67,7 @@ xangoravit-count-rows-spec =
     count-rows-requires
     due-requires
     unheld-requires
-    write-place-requires
-    number-in-requires
+    answer-read-requires
     same-length
     returns
     tell-requires

@@ -1,6 +1,6 @@
 -- `sheet_header::body_check` meets its contract: a body too short for a header is too short for any n and p; each other return is the first test that fails.
 -- Assumes nothing.
-use mathlib.Core.Path.{_≡_, _∙_}
+use mathlib.Core.Path.{_≡_, sym, _∙_}
 use mathlib.Core.Bool.{false}
 use mathlib.Core.List.{List}
 use Prim.Native.Nat.{ℕ, _+_, _*_, _≤_, _<_}
@@ -8,7 +8,7 @@ use native.Mathlib.Nat.{mul-le-mul}
 use native.Mathlib.Omega.{arith}
 use lib.Dec.{eqb}
 use lib.ListN.{length}
-use borrow.Author.Tests.{le-leb, lt-leb, eq-eqb, ne-eqb}
+use borrow.Author.Tests.{eq-eqb, ne-eqb, not-true, not-false}
 use Rattle.sheet_header.specs.Header.{nOf, pOf, row-at, bodyCheck}
 use Rattle.sheet_header.proofs.Passed.{Laid}
 use Rattle.sheet_header.proofs.body_check.Statement.{statement}
@@ -46,16 +46,23 @@ returns-2 : tie.Need-returns-2
 unfolding bodyCheck
 returns-2 c = rw (← rows-end (c .before), ne-eqb _ _ (c .if2 .taken))
 
-shared-slice-read-if3 : tie.Need-shared-slice-read-if3
-shared-slice-read-if3 c = omega arith
+shared-slice-read-flags-fine : tie.Need-shared-slice-read-flags-fine
+shared-slice-read-flags-fine c = omega arith
+
+flags-fine-requires : tie.Need-flags-fine-requires
+flags-fine-requires c κs = tt
 
 returns-3 : tie.Need-returns-3
 unfolding bodyCheck
-returns-3 c = rw (eq-eqb _ _ (laid (c .before .before)), lt-leb _ 3 (c .if3 .taken))
+returns-3 c =
+    let k = c .before in
+    rw (eq-eqb _ _ (laid (k .before .before)), sym (k .flags-fine .ensures) ∙ not-true _ (c .if3 .taken))
 
 returns-4 : tie.Need-returns-4
 unfolding bodyCheck
-returns-4 c = rw (eq-eqb _ _ (laid (c .before .before)), le-leb _ 3 (c .if3 .left))
+returns-4 c =
+    let k = c .before in
+    rw (eq-eqb _ _ (laid (k .before .before)), sym (k .flags-fine .ensures) ∙ not-false _ (c .if3 .left))
 
 pub body-check-spec : {M : Type 1} → statement M
 body-check-spec =
@@ -66,6 +73,7 @@ body-check-spec =
     two-bytes-requires-2
     row-at-requires
     returns-2
-    shared-slice-read-if3
+    shared-slice-read-flags-fine
+    flags-fine-requires
     returns-3
     returns-4)

@@ -2,17 +2,20 @@
 use Prim.Native.Nat.{_≤_}
 use native.Mathlib.Omega.{arith}
 use borrow.Author.Needs.{needs}
-use lib.ListN.{length, length-drop}
-use Rattle.sheet_header.specs.Header.{bodyOf}
-use Rattle.sheet_header.proofs.Passed.{lent-from, body-lent, Laid, laid-fine}
+use lib.ListN.{length}
+use Rattle.sheet_front.specs.Front.{bodyOf}
+use Rattle.sheet_header.proofs.Passed.{lent-from, body-lent, Laid, body-begun, body-within, laid-fine}
 use Rattle.sheet_header.proofs.Outcomes.{header-refused, header-read}
 use Rattle.sheet_header.proofs.read_header.Statement.{statement}
 use Rattle.sheet_header.proofs.read_header.Tie as tie
 
-laid : (c : tie.After-enum-told) → Laid (bodyOf (c .before .before .before .before .args .b .now))
+abbrev from : tie.After-enum-told → tie.Start
+from c = c .before .before .before .before
+
+laid : (c : tie.After-enum-told) → Laid (bodyOf (from c .args .b .now))
 laid c =
     let k = c .before .before .header-check in
-    laid-fine _ (k .result) (k .ensures) (c .enum-told .given .1)
+    laid-fine 1 2 _ (k .result) (k .ensures) (c .enum-told .given .1)
 
 header-check-requires : tie.Need-header-check-requires
 header-check-requires c κs = tt
@@ -28,21 +31,27 @@ returns c =
 enum-told : tie.Need-enum-told
 enum-told c = search needs
 
+body-at-requires : tie.Need-body-at-requires
+body-at-requires c κs = body-begun (from c .args .b .now) (laid c)
+
+within : (c : tie.After-body-at) → c .body-at .result ≤ length (from (c .before) .args .b .now)
+within c = body-within (from (c .before) .args .b .now) _ (c .body-at .ensures) (laid (c .before))
+
 sub-body : tie.Need-sub-body
-sub-body c = omega (arith, laid c, length-drop 5 (c .before .before .before .before .args .b .now))
+sub-body c = omega (arith, within c)
 
 part-body-start : tie.Need-part-body-start
-part-body-start c = omega (arith, laid c, length-drop 5 (c .before .before .before .before .args .b .now))
+part-body-start c = omega (arith, within c)
 
 part-body-end : tie.Need-part-body-end
 part-body-end c = omega arith
 
 -- the part that is lent has a whole header
-long : (c : tie.After-body) → 33 ≤ length (lent-from (c .before .before .before .before .before .args .b .now))
+long : (c : tie.After-body) → 33 ≤ length (lent-from (from (c .before .before) .args .b .now) (c .before .body-at .result))
 long c =
     let t = c .before in
-    let h = laid t in
-    rw (body-lent (t .before .before .before .before .args .b .now)) (omega arith)
+    let h = laid (t .before) in
+    rw (body-lent (from (t .before) .args .b .now) (t .body-at .result) (t .body-at .ensures)) (omega arith)
 
 two-bytes-requires : tie.Need-two-bytes-requires
 two-bytes-requires c κs = omega (arith, long c)
@@ -54,8 +63,10 @@ returns-2 : tie.Need-returns-2
 returns-2 c =
     let n = c .before in
     let t = n .before .before in
-    let k = t .before .before .header-check in
-    header-read _ _ _ (k .result) (k .ensures) (c .header-of .result) (n .two-bytes .result) (t .enum-told .given .1) (n .two-bytes .ensures .0) (c .header-of .ensures)
+    let e = t .before in
+    let k = e .before .before .header-check in
+    header-read _ _ _ (k .result) (k .ensures) (t .body-at .result) (c .header-of .result) (n .two-bytes .result) (t .body-at .ensures) (e .enum-told .given .1)
+    (n .two-bytes .ensures .0) (c .header-of .ensures)
 
 pub read-header-spec : {M : Type 1} → statement M
 read-header-spec =
@@ -65,6 +76,7 @@ read-header-spec =
     enum-known-c
     returns
     enum-told
+    body-at-requires
     sub-body
     part-body-start
     part-body-end
