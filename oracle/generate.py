@@ -1,8 +1,7 @@
 #!/usr/bin/env python3
 """Problems from a seed, the same on every Python: own random numbers, and only operations that IEEE 754 fixes.
 
-generate.py fits|tight|solver|predict|designs|paper|paper-tight|paper-designs SEED COUNT OUT
-Those of the paper build have flags 5 and 7.
+generate.py fits|tight|solver|predict|designs SEED COUNT OUT
 """
 import math
 import sys
@@ -10,7 +9,6 @@ import sys
 from words import file_text, floats, number, record_text, write
 
 MASK = (1 << 64) - 1
-NORMALISE, PAPER = 1, 4  # of the flags
 
 
 class Random:
@@ -167,20 +165,10 @@ def fit(r, family):
     return fit_lines(x, targets(r, x, family), r.below(4), limit, alpha, ratio, tol)
 
 
-def fits(seed, count, stream=1000):
+def fits(seed, count):
     """(family, lines) of each; every fit has its own stream, so that a change in one leaves the others."""
     names = ["ordinary", "ordinary", "whole", "whole", "wild", "tight", "tight", "flat", "zero"]
-    return [(name, fit(Random(seed, stream + i), name)) for i in range(count) for name in [names[i % len(names)]]]
-
-
-def as_paper(lines):
-    """A fit whose scores are centred as the paper does, which is for normalised fits only."""
-    head, *rest = lines
-    return [[*head[:3], head[3] | NORMALISE | PAPER, *head[4:]], *rest]
-
-
-def paper_fits(seed, count):
-    return [(family, as_paper(lines)) for family, lines in fits(seed, count, 6_000_000)]
+    return [(name, fit(Random(seed, 1000 + i), name)) for i in range(count) for name in [names[i % len(names)]]]
 
 
 def stretched(r, n, p):
@@ -195,9 +183,9 @@ def near(r, n, p):
     return [[r.wild(reach) for _ in range(p)] for _ in range(n)]
 
 
-def tight(seed, i, stream=5_000_000):
+def tight(seed, i):
     """A small problem with a tolerance near what binary64 can hold; small targets let the logarithms weigh most."""
-    r = Random(seed, stream + i)
+    r = Random(seed, 5_000_000 + i)
     n, p = r.whole(1, 8), r.pick([1, 1, 2, 2, 3])
     make = r.pick([ordinary, ordinary, whole, whole, stretched, stretched, near, wild])
     x = make(r, n, p)
@@ -276,55 +264,37 @@ def refused(x):
 # Beyond the Rust's panels of 256 rows and 32 columns, with the flags.
 LARGE = [(300, 40, 3), (300, 40, 2), (257, 33, 3), (257, 33, 1), (20, 40, 0), (20, 40, 1), (20, 40, 2), (20, 40, 3),
          (300, 3, 0), (300, 3, 1), (300, 3, 2), (300, 3, 3), (256, 2, 3), (5, 32, 3), (1, 34, 2), (1, 34, 0)]
-PAPER_LARGE = [(300, 3, 5), (300, 3, 7)]
 
 
-def design(r, i, large, modes):
+def design(r, i):
     """The first are large; then small ones in each of the modes."""
     kind = r.pick([ordinary, ordinary, whole, wild, wild, flat, flat])
-    small = lambda: (r.pick([1, 2, 3, r.whole(2, 12)]), r.pick([1, 1, 2, r.whole(1, 5)]), modes[i % len(modes)])
-    n, p, flags = large[i] if i < len(large) else small()
+    n, p, flags = LARGE[i] if i < len(LARGE) else (r.pick([1, 2, 3, r.whole(2, 12)]), r.pick([1, 1, 2, r.whole(1, 5)]), i % 4)
     x = kind(r, n, p)
-    while flags & NORMALISE and refused(x):
+    while flags & 1 and refused(x):
         n, kind = max(n, 2), r.pick([ordinary, wild, flat])
         x = kind(r, n, p)
     y = targets(r, x, r.pick(["ordinary", "whole", "wild", "zero"]))
     _, alpha, ratio, _ = settings(r, "ordinary")
     value = (lambda: r.wild(200)) if r.below(4) == 0 else (lambda: r.pick([0.0, -0.0, r.bell(), r.bell()]))
     w, v = [value() for _ in range(p)], [value() for _ in range(n + p)]
-    return design_lines(x, y, flags, alpha, ratio, w, v)
-
-
-def design_lines(x, y, flags, alpha, ratio, w, v):
-    head = [4, len(x), len(x[0]), flags] + floats([alpha, ratio])
+    head = [4, n, p, flags] + floats([alpha, ratio])
     return [head] + [floats(row) for row in x] + [floats(y), floats(w), floats(v)]
-
-
-# The stream of each kind's first problem, and how it is made.
-MADE = {
-    "solver": (1_000_000, lambda r, _: solver(r)),
-    "predict": (2_000_000, lambda r, _: predict(r)),
-    "designs": (3_000_000, lambda r, i: design(r, i, LARGE, range(4))),
-    "paper-designs": (4_000_000, lambda r, i: design(r, i, PAPER_LARGE, (5, 7))),
-}
-FITS = {
-    "fits": lambda seed, count: [lines for _, lines in fits(seed, count)],
-    "tight": lambda seed, count: [tight(seed, i) for i in range(count)],
-    "paper": lambda seed, count: [lines for _, lines in paper_fits(seed, count)],
-    "paper-tight": lambda seed, count: [as_paper(tight(seed, i, 7_000_000)) for i in range(count)],
-}
 
 
 def problems(kind, seed, count):
     """The lines of each problem of a kind."""
-    if kind in FITS:
-        return FITS[kind](seed, count)
-    stream, make = MADE[kind]
+    if kind == "fits":
+        return [lines for _, lines in fits(seed, count)]
+    if kind == "tight":
+        return [tight(seed, i) for i in range(count)]
+    make = {"solver": lambda r, _: solver(r), "predict": lambda r, _: predict(r), "designs": design}[kind]
+    stream = {"solver": 1_000_000, "predict": 2_000_000, "designs": 3_000_000}[kind]
     return [make(Random(seed, stream + i), i) for i in range(count)]
 
 
 def main():
-    if len(sys.argv) != 5 or sys.argv[1] not in {**FITS, **MADE}:
+    if len(sys.argv) != 5 or sys.argv[1] not in ("fits", "tight", "solver", "predict", "designs"):
         sys.exit(__doc__)
     kind, seed, count, out = sys.argv[1], int(sys.argv[2]), int(sys.argv[3]), sys.argv[4]
     write(out, file_text([record_text(lines) for lines in problems(kind, seed, count)]))

@@ -1,8 +1,8 @@
 #!/usr/bin/env python3
-"""Turns copies of the Rust's files and of num_traits into those of the fixed build, or of the paper build.
+"""Turns copies of the Rust's files and of num_traits into those of the fixed build.
 
-patch.py fixed|paper CRATE NUM_TRAITS: both are folders with copies, changed in place. Each rule names a line as it
-stands in the file, how often it stands there, and what takes its place. Nothing is written unless every rule fits.
+patch.py CRATE NUM_TRAITS: both are folders with copies, changed in place. Each rule names a line as it stands
+in the file, how often it stands there, and what takes its place. Nothing is written unless every rule fits.
 """
 import os
 import sys
@@ -17,7 +17,6 @@ def method(head, call):
 
 ARRAYS = "linalg/basic/arrays.rs"
 LASSO = "linear/lasso_optimizer.rs"
-NET = "linear/elastic_net.rs"
 SOLVER = "linear/bg_solver.rs"
 
 # (file, line, how often, replacement)
@@ -39,15 +38,6 @@ CRATE_RULES = [
     (SOLVER, "        for iter in 1..max_iter {", 1, "        for iter in 1..max_iter {\n crate::counts::solver_round();"),
 ]
 
-# The scores are centred before anything is appended to them, as Zou and Hastie do: their mean is taken off where the
-# Rust appends, and the optimiser is told not to take off that of scores and zeros together.
-PAPER_RULES = [
-    (NET, "        let mut result = Vec::<TX>::zeros(length);", 1,
-     "        let mut result = Vec::<TX>::zeros(length);\n        let mean = TX::from_f64(y.mean_by()).unwrap();"),
-    (NET, "            *dest = TX::from(value).unwrap();", 1, "            *dest = TX::from(value).unwrap() - mean;"),
-    (NET, "                true,", 4, "                false,"),
-]
-
 NUM_TRAITS_RULES = [
     ("float.rs", "                Self::ln(self) -> Self;", 1, method("ln(self) -> Self", "ln(self as f64)")),
     ("float.rs", "                Self::powi(self, n: i32) -> Self;", 1,
@@ -60,8 +50,6 @@ NUM_TRAITS_RULES = [
      method("min(self, other: Self) -> Self", "min(self as f64, other as f64)")),
     ("lib.rs", "mod macros;", 1, "mod macros;\npub mod fixed;"),
 ]
-
-RULES = {"fixed": CRATE_RULES, "paper": CRATE_RULES + PAPER_RULES}
 
 
 def patched(folder, rules):
@@ -79,11 +67,11 @@ def patched(folder, rules):
 
 
 def main():
-    if len(sys.argv) != 4 or sys.argv[1] not in RULES:
-        sys.exit("patch.py fixed|paper CRATE NUM_TRAITS")
+    if len(sys.argv) != 3:
+        sys.exit("patch.py CRATE NUM_TRAITS")
     try:
-        crate, wrong = patched(sys.argv[2], RULES[sys.argv[1]])
-        traits, more = patched(sys.argv[3], NUM_TRAITS_RULES)
+        crate, wrong = patched(sys.argv[1], CRATE_RULES)
+        traits, more = patched(sys.argv[2], NUM_TRAITS_RULES)
     except OSError as error:
         sys.exit(f"patch.py: {error}")
     if wrong + more:

@@ -11,7 +11,7 @@ from collections import namedtuple
 BODY = {1: 5, 2: 9}  # where the body begins in each version: behind the length, and in version 2 behind the family number too
 HEADER = struct.Struct(">HHdddIB")  # the body up to its rows
 FOUR_BYTES = 0xFFFFFFFF  # the largest length, and the largest family number
-NORMALISE, LAZY, PAPER = 1, 2, 4  # flags; the last only with the first
+NORMALISE, LAZY = 1, 2
 CANCELLED = 0  # as the target of a row, which then has no score and no place in the matrix
 FIT_ROWS, FIT_FEATURES = 4096, 64
 PROGRAM_ROWS, PROGRAM_FEATURES, PROGRAM_BYTES = 256, 16, 35882
@@ -29,17 +29,17 @@ RANGES = {
 MEANINGS = {
     1: f"rows or features outside what a fit takes: 1 to {FIT_ROWS:,} rows that are not cancelled, 1 to {FIT_FEATURES} features",
     2: "a slice has the wrong length for the rows and features",
-    3: "a setting is outside its range: " + ", ".join(f"{name} {words}" for name, (_, _, words) in RANGES.items()) + "; or paper is chosen without normalise",
+    3: "a setting is outside its range: " + ", ".join(f"{name} {words}" for name, (_, _, words) in RANGES.items()),
     4: "the scratch memory is too short",
     5: "value {k} is not finite; values count from 0, through the features row by row, then through the scores, cancelled rows left out",
     6: "feature {k}{name} is constant; a normalised fit needs features that vary",
     7: "the search made 100 trials and accepted none",
     8: "the solver's tolerance came out at or below 0",
-    9: "the paused record is impossible, its fit has already ended, or its choice of the centring (paper) is not that of the settings",
+    9: "the paused record is impossible, or its fit has already ended",
     10: "the solver alone was called with limit 0",
     11: "the sheet's version is neither 1 nor 2",
     12: "the sheet's length is wrong; the file is cut, too long or no sheet",
-    13: "the sheet's flags are none that exist: only 1 (normalise), 2 (lazy) and 4 (paper) do, and 4 only with 1",
+    13: "the sheet's flags are above 3",
     14: "row {k} (from 0, cancelled rows counted) has a source outside 1 to 999, a target outside 0 to 999, or target 0 (cancelled) with a score",
     15: "row {k} (from 0, cancelled rows counted) has a pair that does not come after the pair of the row before",
     16: f"too large for claimfit: it takes {PROGRAM_ROWS} rows (cancelled ones count), {PROGRAM_FEATURES} features and {PROGRAM_BYTES:,} bytes",
@@ -292,8 +292,8 @@ def frame_refusals(data, versions):
     due = fixed + n * (12 + 8 * p)
     if length != due:
         yield Refusal(12, 0, f"{counted(n, 'row')} of {counted(p, 'feature')} need a length of {due:,}, but it is {length:,}")
-    if flags > NORMALISE + LAZY + PAPER or (flags & PAPER and not flags & NORMALISE):
-        yield Refusal(13, 0, f"the flags are {flags}; only 1 (normalise), 2 (lazy) and 4 (paper) exist, and 4 only with 1")
+    if flags > NORMALISE + LAZY:
+        yield Refusal(13, 0, f"the flags are {flags}; known are 1 (normalise), 2 (lazy) and 3 (both)")
 
 
 def pair_refusals(rows):

@@ -35,7 +35,7 @@
 extern "C" {
 #endif
 
-/* Settings, 9 words. The panels R by C are used by a lazy fit only: 1 to 256 by 1 to 32. */
+/* Settings, 8 words. The panels R by C are used by a lazy fit only: 1 to 256 by 1 to 32. */
 enum {
     XANGORAVIT_ALPHA,     /* bits of a double, 0 to 1,000,000 */
     XANGORAVIT_L1_RATIO,  /* bits of a double, 0 to 1 */
@@ -45,25 +45,22 @@ enum {
     XANGORAVIT_PANEL_COLS,
     XANGORAVIT_NORMALISE, /* 0: no; any other word: yes */
     XANGORAVIT_LAZY,      /* 0: the normalised matrix is stored in the scratch; any other word: it is not */
-    XANGORAVIT_PAPER,     /* 0: the scores are centred with p zeros behind them, which move too, as the Rust does; any other
-                             word: before the zeros are appended, which stay, as Zou and Hastie's paper does. It wants
-                             XANGORAVIT_NORMALISE: without that it is refused with 3 */
     XANGORAVIT_SETTINGS   /* how many words there are */
 };
 
-/* Header of a sheet, 11 words: n and p, then the settings' 9 words, so that `header + XANGORAVIT_FROM` are settings. */
+/* Header of a sheet, 10 words: n and p, then the settings' 8 words, so that `header + XANGORAVIT_FROM` are settings. */
 enum { XANGORAVIT_N, XANGORAVIT_P, XANGORAVIT_FROM, XANGORAVIT_HEADER = XANGORAVIT_FROM + XANGORAVIT_SETTINGS };
 
 /* Words of a move, 2: how many bytes the moved sheet has, and the family, which a move down has taken out of it. */
 enum { XANGORAVIT_MOVED_BYTES, XANGORAVIT_MOVED_FAMILY, XANGORAVIT_MOVED };
 
-/* Record of a fit between its calls, 17 words: stage (0 opening, 1 solving, 2 searching, 3 ended), the stage's index,
-   round, the three counts, the bits of nine doubles, whether a solve has missed its tolerance, and the choice of the
-   centring. Keep it with the scratch, and pass both back as they are. */
-enum { XANGORAVIT_RECORD = 17 };
+/* Record of a fit between its calls, 16 words: stage (0 opening, 1 solving, 2 searching, 3 ended), the stage's index,
+   round, the three counts, the bits of nine doubles, and whether a solve has missed its tolerance. Keep it with the
+   scratch, and pass both back as they are. */
+enum { XANGORAVIT_RECORD = 16 };
 
 /* Answer, 7 words. From xangoravit_resume the counts are the record's, also with a refusal, or 0 where the record has not
-   its 17 words; from the other calls they are 0. */
+   its 16 words; from the other calls they are 0. */
 enum {
     XANGORAVIT_KIND,          /* one of the four below */
     XANGORAVIT_NUMBER,        /* of the refusal, or 0 */
@@ -134,7 +131,7 @@ uint64_t xangoravit_move_down(const uint8_t *bytes, size_t bytes_length, uint8_t
                               uint64_t *moved, size_t moved_length, uint64_t *place, size_t place_length);
 
 /* The doubles of scratch that a fit needs: lend start and resume so many, or more, which are left alone. 0 where n, p or a
-   setting is out of range, or the settings have not their 9 words: then no scratch will do, and a start says why. */
+   setting is out of range, or the settings have not their 8 words: then no scratch will do, and a start says why. */
 size_t xangoravit_scratch_words(size_t n, size_t p, const uint64_t *settings, size_t settings_length);
 
 /* Checks everything, prepares the scratch and writes the record; makes no step. Refusals 1 to 6. */
@@ -144,9 +141,8 @@ uint64_t xangoravit_start(size_t n, size_t p, const double *x, size_t x_length, 
 
 /* Makes steps until the budget is spent (pending) or the fit ends; where a fit pauses does not change its answer. Pass
    what the start was passed. The p weights are written where the fit ends; it ends too where it is refused 7 or 8, with
-   weights of 0. Refusals 1 to 4, then 9: a record that is impossible or has ended, or whose choice of the centring is not
-   that of the settings. They leave record, scratch and weights as they were, and so does a call with budget 0 that is
-   pending, whatever their words are. */
+   weights of 0. Refusals 1 to 4, then 9: a record that is impossible or has ended. They leave record, scratch and weights
+   as they were, and so does a call with budget 0 that is pending, whatever their words are. */
 uint64_t xangoravit_resume(size_t n, size_t p, const double *x, size_t x_length, const double *y, size_t y_length,
                            const uint64_t *settings, size_t settings_length, uint64_t *record, size_t record_length,
                            double *scratch, size_t scratch_length, double *weights, size_t weights_length,

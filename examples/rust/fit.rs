@@ -1,8 +1,8 @@
 //! The calls of Xangoravit from Rust: fits four rows of two features in budgets of 20 steps, then predicts a fifth row.
 //! What each slice holds is said in ../c/xangoravit.h.
 
-const SETTINGS: usize = 9;
-const RECORD: usize = 17;
+const SETTINGS: usize = 8;
+const RECORD: usize = 16;
 const ANSWER: usize = 7;
 const PENDING: u64 = 0;
 const LIMIT: u64 = 2;
@@ -53,8 +53,8 @@ fn fit(n: usize, p: usize, x: &[f64], y: &[f64], settings: &[u64; SETTINGS], wei
 fn main() {
     let x = [1.0, 0.0, 0.0, 1.0, 1.0, 1.0, 2.0, 1.0];
     let y = [1.0, 2.0, 3.0, 4.0];
-    // alpha, l1_ratio, tol, M; panels, which an eager fit does not look at; normalise, eager, centred as by the Rust
-    let settings = [0.01f64.to_bits(), 0.5f64.to_bits(), 1e-4f64.to_bits(), 100, 0, 0, 1, 0, 0];
+    // alpha, l1_ratio, tol, M; panels, which an eager fit does not look at; normalise, eager
+    let settings = [0.01f64.to_bits(), 0.5f64.to_bits(), 1e-4f64.to_bits(), 100, 0, 0, 1, 0];
     let mut weights = [0.0; 2];
     let fitted = match fit(4, 2, &x, &y, &settings, &mut weights, 20) {
         Ok(fitted) => fitted,

@@ -11,7 +11,7 @@ use crate::words::{self, bits, line_text};
 type Lines = Vec<Vec<u64>>;
 
 /// What the plain build cannot know, since nothing counts there.
-const COUNTING: bool = !cfg!(plain);
+const COUNTING: bool = cfg!(fixed);
 
 struct Lone;
 impl<'a> BiconjugateGradientSolver<'a, f64, DenseMatrix<f64>> for Lone {}
@@ -84,8 +84,7 @@ fn design(q: &Design) -> Result<Lines, String> {
     let of = if q.flags & 2 != 0 { inside::lazy } else { inside::eager };
     let d = of(&x, &q.y, q.flags & 1 != 0, l2, &q.w, &q.v).map_err(|f| f.to_string())?;
     let lambda = num_traits::Float::max(l1 * d.gamma, f64::EPSILON);
-    // As the optimiser centres them, which it does not in the paper build: there they were centred before anything was appended.
-    let centred = if cfg!(paper) { d.targets.clone() } else { d.targets.sub_scalar(d.targets.mean_by()) };
+    let centred = d.targets.sub_scalar(d.targets.mean_by());
     let mut lines = vec![
         all_bits(&d.means),
         all_bits(&d.deviations),

@@ -1,9 +1,6 @@
 //! Problems as read from a record, inside the sizes that 01 allows.
 use crate::words::place;
 
-/// How the scores are centred is a matter of the build: one takes the flags with 4, the others those without.
-const FLAGS: &[u64] = if cfg!(paper) { &[5, 7] } else { &[0, 1, 2, 3] };
-
 pub struct Fit {
     pub n: usize,
     pub p: usize,
@@ -81,14 +78,6 @@ impl Cursor<'_> {
         Ok(value as usize)
     }
 
-    fn flags(&mut self) -> Result<u64, String> {
-        let value = self.word()?;
-        if !FLAGS.contains(&value) {
-            return self.wrong(&format!("the flags are {value}, and this build answers {FLAGS:?}"));
-        }
-        Ok(value)
-    }
-
     fn float(&mut self, name: &str, low: f64, high: f64) -> Result<f64, String> {
         let value = f64::from_bits(self.word()?);
         if !(value >= low && value <= high) {
@@ -123,7 +112,7 @@ fn fit(c: &mut Cursor) -> Result<Fit, String> {
     Ok(Fit {
         n,
         p,
-        flags: c.flags()?,
+        flags: c.whole("the flags", 0, 3)? as u64,
         limit: c.whole("M", 0, 1000)?,
         alpha: c.float("alpha", 0.0, 1e6)?,
         l1_ratio: c.float("l1_ratio", 0.0, 1.0)?,
@@ -155,7 +144,7 @@ fn design(c: &mut Cursor) -> Result<Design, String> {
     Ok(Design {
         n,
         p,
-        flags: c.flags()?,
+        flags: c.whole("the flags", 0, 3)? as u64,
         alpha: c.float("alpha", 0.0, 1e6)?,
         l1_ratio: c.float("l1_ratio", 0.0, 1.0)?,
         x: c.floats(n * p)?,

@@ -1,5 +1,4 @@
-"""What a comparison stands on: the oracle's fixed and paper builds, our archives, and the driver. What is missing here is named, or installed where that is
-asked for."""
+"""What a comparison stands on: the oracle's fixed build, our archives, and the driver. What is missing here is named, or installed where that is asked for."""
 import glob
 import hashlib
 import os
@@ -51,8 +50,8 @@ def new_enough(rustc):
         raise Missing(f"{said} cannot build the oracle; {'.'.join(map(str, OLDEST))} or later can")
 
 
-def oracles():
-    """The fixed and the paper one, built by oracle/build, which names what is missing; any other failure is one."""
+def oracle():
+    """Built by oracle/build, which names what is missing; any other failure is one."""
     building = subprocess.Popen([f"{REPOSITORY}/oracle/build"], stderr=subprocess.PIPE, text=True)
     missing = []
     for line in building.stderr:
@@ -64,7 +63,7 @@ def oracles():
         if missing:
             raise Missing("missing: " + "; ".join(missing))
         sys.exit("run: the oracle did not build")
-    return f"{BUILD}/oracle-fixed", f"{BUILD}/oracle-paper"
+    return f"{BUILD}/oracle-fixed"
 
 
 def emulator(rt):
@@ -94,7 +93,7 @@ def sum_of(paths):
 
 
 def builds(archives, room, install):
-    """The two oracles, the driver's command, and a sum over all that an answer depends on. What cannot be installed is looked for first."""
+    """The oracle, the driver's command, and a sum over all that an answer depends on. What cannot be installed is looked for first."""
     if not os.path.isdir(SOURCES):
         raise Missing(f"the oracle's sources are not at {SOURCES} (set XANGORAVIT_SRC)")
     rt = tool("RT", "rt")
@@ -103,10 +102,10 @@ def builds(archives, room, install):
     get(compiler, install)
     linker = [tool("CC", compiler[0]), "-static" if before else "-no-pie"]  # what an emulator runs needs no loader
     new_enough(tool("RUSTC", "rustc"))
-    judges = oracles()
+    judge = oracle()
     if not archives:
         for crate in CRATES:
             subprocess.run([rt, "staticlib", crate], cwd=REPOSITORY, check=True, stdout=sys.stderr)
         archives = [f"{REPOSITORY}/target/staticlib/lib{crate}.a" for crate in CRATES]
     driver = linked(linker, archives, room)
-    return judges, [*before, driver], sum_of([*judges, driver, f"{HERE}/run", f"{REPOSITORY}/oracle/generate.py"])
+    return judge, [*before, driver], sum_of([judge, driver, f"{HERE}/run", f"{REPOSITORY}/oracle/generate.py"])

@@ -63,9 +63,8 @@ int in_size(size_t n, size_t p) { return n >= 1 && n <= 4096 && p >= 1 && p <= 6
 
 static int in_range(u64 bits, double most) { return of_bits(bits) >= 0.0 && of_bits(bits) <= most; }
 
-// Panels are looked at where the fit is lazy only. The last word, the choice of the centring, wants a fit that normalises (02's T-02).
+// Panels are looked at where the fit is lazy only.
 int settled(const u64 *set) {
-    if (set[8] && !set[6]) return 0;
     if (!in_range(set[0], 1e6) || !in_range(set[1], 1.0) || !in_range(set[2], 0x1.fffffffffffffp1023) || set[3] > 1000) return 0;
     return !set[7] || (set[4] >= 1 && set[4] <= 256 && set[5] >= 1 && set[5] <= 32);
 }
@@ -102,8 +101,6 @@ void still_pending(const struct call *c, const struct copy *before, int stepped)
         unwritten(before, c);
         return;
     }
-    u64 choice = c->settings[8] != 0;
-    same("choice of a pending fit", c->rec + 16, &choice, 1);
     same("weights of a pending fit", c->w, before->w, c->w_len);
     same("scratch behind the need", c->s + c->need, before->s + c->need, c->s_len - c->need);
     one_nan("record", c->rec + 6, NULL, 9);

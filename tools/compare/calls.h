@@ -14,8 +14,7 @@ extern u64 xangoravit_solve(size_t n, const u64 *a, size_t a_len, const u64 *b, 
                             u64 *answer, size_t answer_len);
 extern size_t xangoravit_scratch_words(size_t n, size_t p, const u64 *settings, size_t settings_len);
 
-// The last of the settings' words and of the record's is the choice of the centring.
-enum { SETTINGS = 9, RECORD = 17, ANSWER = 7, MOST = 270000, SCRATCH = 290000 };
+enum { SETTINGS = 8, RECORD = 16, ANSWER = 7, MOST = 270000, SCRATCH = 290000 };
 
 // One call's slices with their lengths: inputs, then what is lent.
 struct call {

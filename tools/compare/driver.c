@@ -1,8 +1,7 @@
 // driver fits|solver|predict ANSWERED SEED: our answers against those of a file that the oracle answered.
 // driver tampered SEED COUNT: resumes of records and memory that no fit left, as many starts, and predictions and solves of wrong sizes, against refusals written
 // down here a second time.
-// driver sheets SEED COUNT: training sheets of both versions, most of them damaged and a quarter with cancelled rows, and 512 more, one for each byte that flags can
-// be and each version, against a second reader, mover and writer.
+// driver sheets SEED COUNT: training sheets of both versions, most of them damaged and a quarter with cancelled rows, against a second reader, mover and writer.
 // driver scratch SEED COUNT: the words of scratch for sizes and settings in and out of range, against 01's formula.
 // Numbers are handled as bits. Each slice ends at a page that faults; inputs are read-only while a call runs. Prints a line for each difference and one of counts.
 #include <stdio.h>

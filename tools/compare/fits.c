@@ -16,22 +16,16 @@ struct fit {
     const u64 *problem, *told; // the words behind the kind; the oracle's answer
 };
 
-enum { MODES = 8 }; // by the flags: 1 normalise, 2 lazy, 4 paper, which is never without 1
-// The settings' words, as xangoravit.h has them.
-enum { ALPHA, L1_RATIO, TOL, MAX_ITER, PANEL_ROWS, PANEL_COLS, NORMALISE, LAZY, PAPER };
-
-static u64 whole_fits, pauses, calls, steps, by_mode[MODES], by_end[12]; // an end is 1, 2 or the refusal
+static u64 whole_fits, pauses, calls, steps, by_mode[4], by_end[12]; // an end is 1, 2 or the refusal
 
 // Truth is any word but 0; panels are looked at where the fit is lazy only.
 static void settle(struct call *c, const struct fit *q) {
     static const u64 most_rows[] = {2, 16, 64, 256}, most_columns[] = {2, 8, 32};
-    u64 *set = c->settings;
-    set[ALPHA] = q->problem[4], set[L1_RATIO] = q->problem[5], set[TOL] = q->problem[6], set[MAX_ITER] = q->problem[3];
-    set[NORMALISE] = q->flags & 1 ? between(1, 3) : 0;
-    set[LAZY] = q->flags & 2 ? between(1, 3) : 0;
-    set[PANEL_ROWS] = q->flags & 2 ? between(1, most_rows[below(4)]) : word() >> below(64);
-    set[PANEL_COLS] = q->flags & 2 ? between(1, most_columns[below(3)]) : word() >> below(64);
-    set[PAPER] = q->flags & 4 ? between(1, 3) : 0;
+    c->settings[0] = q->problem[4], c->settings[1] = q->problem[5], c->settings[2] = q->problem[6], c->settings[3] = q->problem[3];
+    c->settings[6] = q->flags & 1 ? between(1, 3) : 0;
+    c->settings[7] = q->flags & 2 ? between(1, 3) : 0;
+    c->settings[4] = q->flags & 2 ? between(1, most_rows[below(4)]) : word() >> below(64);
+    c->settings[5] = q->flags & 2 ? between(1, most_columns[below(3)]) : word() >> below(64);
 }
 
 // Scratch, weights, record and answer hold anything before a start.
@@ -194,8 +188,7 @@ static void each_record(const char *path, void (*check)(const u64 *, size_t, u64
 
 static void tell_fits(void) {
     printf("fits %" PRIu64 " steps %" PRIu64 " in-pauses %" PRIu64 " calls-in-pauses %" PRIu64, whole_fits, steps, pauses, calls);
-    for (int i = 0; i < MODES; i++)
-        if (by_mode[i]) printf(" mode-%d %" PRIu64, i, by_mode[i]);
+    for (int i = 0; i < 4; i++) printf(" mode-%d %" PRIu64, i, by_mode[i]);
     printf(" converged %" PRIu64 " limit %" PRIu64, by_end[1], by_end[2]);
     for (int i = 6; i < 9; i++) printf(" refused-%d %" PRIu64, i, by_end[i]);
 }

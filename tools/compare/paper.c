@@ -53,25 +53,17 @@ static void write_rows(struct paper *a) {
     if (a->n && rarely()) put_pair(row_of(a, a->n - 1), ALL_PAIRS - 1);
 }
 
-// Those that exist: 4 stands only with 1.
-static uint8_t some_flags(void) {
-    static const uint8_t all[] = {0, 1, 2, 3, 5, 7};
-    return all[below(6)];
-}
-
-static void write_version(struct paper *a, int version, u64 n, u64 p) {
-    of_version(a, version);
+static void write_sheet(struct paper *a, u64 n, u64 p) {
+    of_version(a, (int)between(1, 2));
     a->n = n, a->p = p, a->length = size_of(a, n, p);
     put_length(a);
     put_sizes(a, n, p);
     uint8_t *body = body_of(a);
     for (int i = 0; i < 3; i++) put(body + 4 + 8 * i, any_float(), 8);
     put(body + 28, beside(1000), 4);
-    body[FLAGS] = some_flags();
+    body[FLAGS] = (uint8_t)below(4);
     write_rows(a);
 }
-
-static void write_sheet(struct paper *a, u64 n, u64 p) { write_version(a, (int)between(1, 2), n, p); }
 
 // ---- cancelled rows
 
@@ -259,7 +251,7 @@ static void damage(struct paper *a) {
     case 1: other_length_field(a); break;
     case 2: other_size(a); break;
     case 3: other_version(a); break;
-    case 4: body_of(a)[FLAGS] = (uint8_t)(below(2) ? below(9) : word()); break;
+    case 4: body_of(a)[FLAGS] = (uint8_t)(below(2) ? beside(3) : word()); break;
     case 5: other_number(a); break;
     case 6: a->bytes[below(a->head)] ^= 1 << below(8); break;
     case 7:
@@ -282,7 +274,7 @@ static void random_bytes(struct paper *a) {
     if (below(4) == 0) a->bytes[0] = first;
     if (below(4) && a->length >= 5) put_length(a);
     if (below(4)) put_sizes(a, a->n, a->p);
-    if (below(2)) body_of(a)[FLAGS] = some_flags();
+    if (below(2)) body_of(a)[FLAGS] &= 3;
 }
 
 // n(12+8p) = 4n(3+2p) a little above a multiple of 2^32, and bytes as many as its low 32 bits say: who counts in these finds the length right.
@@ -310,11 +302,4 @@ void draw(struct paper *a) {
         whole(a);
         for (int left = faults[below(7)]; left; left--) damage(a);
     }
-}
-
-void draw_flags(struct paper *a, int version, uint8_t flags) {
-    a->cancelled = 0;
-    write_version(a, version, between(2, 12), between(1, 5));
-    if (below(2)) cancel(a, 1);
-    body_of(a)[FLAGS] = flags;
 }

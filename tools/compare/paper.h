@@ -14,7 +14,6 @@ struct paper {
 };
 
 void draw(struct paper *a);
-void draw_flags(struct paper *a, int version, uint8_t flags); // a small one, whole but for its flags
 uint32_t some_family(void);
 
 #endif

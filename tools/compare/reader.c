@@ -1,4 +1,4 @@
-// Written from the documents alone, 01's "Training sheet" and 02's T-02 to T-04, and docs/RULES.md for the count: the bytes in their order, the refusals in
+// Written from the documents alone, 01's "Training sheet" and 02's T-03 and T-04, and docs/RULES.md for the count: the bytes in their order, the refusals in
 // theirs; a wrong number of words is a 2 as with other slices. Writes nothing but the place where it refuses.
 #include "reader.h"
 
@@ -20,9 +20,6 @@ static u64 real(const uint8_t *from) {
     return of_bits(bits) == of_bits(bits) ? bits : NAN_BITS;
 }
 
-// Above 7, or 4 (paper) without 1 (normalise).
-static int no_flags(uint8_t flags) { return flags > 7 || (flags / 4 == 1 && flags % 2 == 0); }
-
 u64 second_header(const uint8_t *bytes, size_t length, u64 rows, u64 columns, u64 *header, size_t header_length) {
     if (length < 5) return 12;
     if (bytes[VERSION] != 1 && bytes[VERSION] != 2) return 11;
@@ -31,13 +28,13 @@ u64 second_header(const uint8_t *bytes, size_t length, u64 rows, u64 columns, u6
     const uint8_t *body = bytes + body_at(bytes);
     u64 rest = big_endian(bytes + LENGTH, 4), n = big_endian(body + ROWS, 2), p = big_endian(body + COLUMNS, 2);
     if (rest != length - 5 || rest != (bytes[VERSION] == 1 ? 33 : 37) + n * (12 + 8 * p)) return 12;
-    if (no_flags(body[FLAGS])) return 13;
+    if (body[FLAGS] > 3) return 13;
     if (header_length != HEADER) return 2;
     header[0] = n, header[1] = p;
     header[2] = real(body + ALPHA), header[3] = real(body + L1_RATIO), header[4] = real(body + TOL);
     header[5] = big_endian(body + LIMIT, 4);
     header[6] = rows, header[7] = columns;
-    header[8] = body[FLAGS] % 2, header[9] = body[FLAGS] / 2 % 2, header[10] = body[FLAGS] / 4;
+    header[8] = body[FLAGS] % 2, header[9] = body[FLAGS] / 2;
     return 0;
 }
 

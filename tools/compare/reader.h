@@ -4,7 +4,7 @@
 
 #include "common.h"
 
-enum { HEADER = 11 }; // n, p, alpha, l1_ratio, tol, M, R, C, normalise, lazy, paper
+enum { HEADER = 10 }; // n, p, alpha, l1_ratio, tol, M, R, C, normalise, lazy
 
 // The lengths that are lent for matrix, targets, header and place.
 struct lengths {

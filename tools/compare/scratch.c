@@ -20,11 +20,10 @@ static u64 some_float(double most) {
     }
 }
 
-// Truth is any word but 0; an eager fit's panels may be anything. The choice of the centring wants a fit that normalises; now and then it has none.
+// Truth is any word but 0; an eager fit's panels may be anything.
 static void some_settings(u64 *set) {
     set[0] = some_float(1e6), set[1] = some_float(1.0), set[2] = some_float(0x1.fffffffffffffp1023), set[3] = some(0, 1000);
     set[6] = below(2) ? between(1, 3) : 0, set[7] = below(2) ? between(1, 3) : 0;
-    set[8] = below(set[6] ? 2 : 12) == 0 ? between(1, 3) : 0;
     set[4] = set[7] ? some(1, 256) : word() >> below(64), set[5] = set[7] ? some(1, 32) : word() >> below(64);
 }
 

@@ -1,5 +1,5 @@
 // Sheets by chance, of both versions, through crate sheet_api's calls and the second reader: number, place, and each word of what is lent. Each is then moved
-// (moves.c), and its rows are written (writings.c). Behind them each byte that flags can be goes the same way, in both versions.
+// (moves.c), and its rows are written (writings.c).
 #include <stdio.h>
 #include <unistd.h>
 
@@ -22,7 +22,7 @@ static const int of_count[] = {11, 12, 13, 14, 15, 0}, of_count_words[] = {2, 11
 static struct tally headers = {.name = "headers", .done_name = "read", .numbers = of_header, .words_numbers = of_header_words};
 static struct tally counts = {.name = "counts", .done_name = "read", .numbers = of_count, .words_numbers = of_count_words};
 static struct tally whole_sheets = {.name = "sheets", .done_name = "read", .numbers = of_sheet, .words_numbers = of_sheet};
-static u64 read_version_2, read_paper;                     // among those read: of version 2; with the paper's centring
+static u64 read_version_2;                                 // among those read
 static u64 drawn_cancelled, read_cancelled, all_cancelled; // sheets with cancelled rows: when drawn, among those read, and without a fault but with no others
 
 // The due length more often than not.
@@ -58,8 +58,6 @@ static void lend_all(void) {
     lend_words();
 }
 
-static uint8_t flags(void) { return paper.bytes[body() + 32]; }
-
 // The header's n, where it is due.
 static u64 read_n(void) { return *(u64 *)header.due; }
 
@@ -90,15 +88,15 @@ static void one_reading(const uint8_t *bytes, size_t rows, size_t columns) {
     tally(&whole_sheets, due, header.count == HEADER && place.count == 1);
     read_cancelled += due == 0 && read_n() < field(body());
     read_version_2 += due == 0 && paper.bytes[0] == 2;
-    read_paper += due == 0 && flags() & 4;
     alarm(LASTING);
     number = xangoravit_read_sheet(bytes, paper.length, rows, columns, x.lent, x.count, y.lent, y.count, header.lent, header.count, place.lent, place.count);
     same("number", &number, &due, 1);
     as_due(&place), as_due(&header), as_due(&x), as_due(&y);
 }
 
-// The sheet that was drawn.
-static void try_sheet(void) {
+static void one_sheet(u64 seed) {
+    seeded(seed, 11000000 + at);
+    draw(&paper);
     drawn_cancelled += paper.cancelled > 0;
     const uint8_t *bytes = sealed(bytes_room, paper.bytes, paper.length);
     size_t rows = word() >> below(64), columns = word() >> below(64);
@@ -109,21 +107,6 @@ static void try_sheet(void) {
     try_writing(&paper);
 }
 
-static void one_sheet(u64 seed) {
-    seeded(seed, 11000000 + at);
-    draw(&paper);
-    try_sheet();
-}
-
-// By chance not every byte would come.
-static void every_flags(u64 seed) {
-    for (int i = 0; i < 512; i++, at++) {
-        seeded(seed, 11000000 + at);
-        draw_flags(&paper, 1 + i / 256, (uint8_t)i);
-        try_sheet();
-    }
-}
-
 void sheets(u64 seed, u64 count) {
     bytes_room = arena(BYTES_ROOM / 8);
     open_loan(&x, MOST_X), open_loan(&y, MOST_Y), open_loan(&header, HEADER + 3);
@@ -131,10 +114,9 @@ void sheets(u64 seed, u64 count) {
     open_moves();
     open_writings();
     for (; at < count; at++) one_sheet(seed);
-    every_flags(seed);
-    printf("sheets %" PRIu64 " sheets-of-flags %" PRIu64, count, at - count);
+    printf("sheets %" PRIu64, count);
     tell(&whole_sheets), tell(&headers), tell(&counts);
-    printf(" sheets-version-2-read %" PRIu64 " sheets-paper-read %" PRIu64, read_version_2, read_paper);
+    printf(" sheets-version-2-read %" PRIu64, read_version_2);
     printf(" sheets-cancelled %" PRIu64 " sheets-cancelled-read %" PRIu64 " sheets-cancelled-all %" PRIu64, drawn_cancelled, read_cancelled, all_cancelled);
     tell_moves();
     tell_writings();

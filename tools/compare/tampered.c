@@ -1,5 +1,5 @@
-// Resumes of records and memory that no fit left, as many starts, and predictions and solves of wrong sizes, against 01's refusals 1 to 5 and 9, and 02's T-02,
-// written down here a second time.
+// Resumes of records and memory that no fit left, as many starts, and predictions and solves of wrong sizes, against 01's refusals 1 to 5 and 9 written down here
+// a second time.
 #include <stdio.h>
 #include <string.h>
 #include <unistd.h>
@@ -18,9 +18,6 @@ static int misplaced(u64 limit, const u64 *rec) {
     return rec[3] != round + (stage != 0);
 }
 
-// The record's choice of the centring and the settings' are truth values, whatever their words are.
-static int swapped(const u64 *set, const u64 *rec) { return !rec[16] != !set[8]; }
-
 static int overcounted(const u64 *rec) { return rec[4] > 4999 * rec[3] || rec[5] > 100 * rec[3]; }
 
 // Words are slices too: 2 is theirs as well, and the settings are looked at only then.
@@ -32,11 +29,8 @@ static u64 limits(const struct call *c) {
     return c->s_len < need_of(c->n, c->p, c->settings) ? 4 : 0;
 }
 
-static u64 some_yes(void) { return below(2) ? 1 : (u64)1 << below(64); }
-
 // A record that may be gone on with more often than not.
-static void tampered_record(const u64 *set, u64 *rec) {
-    u64 limit = set[3], chosen = rarely() ? !set[8] : !!set[8];
+static void tampered_record(u64 limit, u64 *rec) {
     rec[0] = rarely() ? word() >> below(64) : below(10) ? below(3) : below(6);
     rec[1] = below(4) == 0 ? beside(rec[0] == 2 ? 99 : 4999) : rec[0] == 2 ? below(100) : between(1, 4999);
     rec[2] = rarely() ? beside(limit) : limit ? below(limit) : 0;
@@ -47,7 +41,6 @@ static void tampered_record(const u64 *set, u64 *rec) {
     for (size_t i = 6; i < 15; i++)
         if (below(2)) rec[i] = any_float();
     rec[15] = below(2) ? below(2) : word();
-    rec[16] = chosen ? some_yes() : 0;
 }
 
 static void ordinary_settings(u64 *set) {
@@ -56,16 +49,14 @@ static void ordinary_settings(u64 *set) {
     set[1] = bits_of(below(4) ? unit() : (double)below(2));
     set[2] = bits_of(below(2) ? 1e-4 : unit());
     set[3] = limits[below(7)];
-    set[6] = below(2), set[7] = below(2), set[8] = set[6] && below(2) ? some_yes() : 0;
+    set[6] = below(2), set[7] = below(2);
     set[4] = set[7] ? between(1, 8) : word(), set[5] = set[7] ? between(1, 8) : word();
 }
 
-// Out of its range, or the choice of the centring without normalising.
 static void wrong_setting(u64 *set) {
     static const double floats[] = {-1.0, -0.0, 0.0, 1.0, 0x1.0000000000001p0, 1e6, 0x1.e848000000001p19, 0x1.fffffffffffffp1023, -5e-324};
-    u64 which = below(7);
+    u64 which = below(6);
     if (which < 3) set[which] = below(2) ? bits_of(floats[below(9)]) : any_float();
-    else if (which == 6) set[6] = 0, set[8] = some_yes();
     else set[which] = beside(which == 3 ? 1000 : which == 4 ? 256 : 32);
 }
 
@@ -76,7 +67,7 @@ static u64 odd_size(void) {
 
 static size_t odd_length(size_t length) { return length && below(2) ? length - 1 : length + 1; }
 
-static size_t odd_words(size_t due) { return below(2) ? odd_length(due) : below(due); }
+static size_t odd_words(size_t due) { return below(2) ? due + 1 : below(due); }
 
 // Sizes and lengths that are not due, one or several at once; a slice of another length is a slice all the same.
 static void wrong_sizes(struct call *c) {
@@ -94,7 +85,6 @@ static void wrong_sizes(struct call *c) {
 }
 
 static u64 resumes, let_through, by_number[10], still, stepless, ends, starts, starts_by_number[10], others_by_number[3];
-static u64 by_choice, kept_choices, unnormalised, starts_unnormalised; // 9 by the choice alone; words of it that are not 1 and stay; 3 where it wants normalising
 
 static void random_words(u64 *words, size_t count) {
     u64 kind = below(4);
@@ -118,10 +108,9 @@ static void tampered_memory(struct call *c) {
     mark(c->answer, ANSWER);
     if (below(2) && start(c) == 0 && resume(c, below(300)) == 0) {
         if (below(4)) c->s[below(c->need)] = any_float();
-        if (below(2)) tampered_record(c->settings, c->rec);
+        if (below(2)) tampered_record(c->settings[3], c->rec);
         else if (below(2)) c->rec[below(RECORD)] = any_float();
-    } else tampered_record(c->settings, c->rec);
-    if (rarely()) c->settings[8] = c->settings[8] ? 0 : some_yes();
+    } else tampered_record(c->settings[3], c->rec);
     if (rarely()) c->x[below(n * p)] = any_float();
     if (rarely()) c->y[below(n)] = any_float();
 }
@@ -136,11 +125,10 @@ static void allowed(const struct call *c, u64 number, u64 budget) {
     if (kind == 0) {
         still++;
         stepless += !budget;
-        kept_choices += !budget && first.rec[16] > 1;
         still_pending(c, &first, budget != 0);
         same("steps of a pending call", &taken, &budget, 1);
         // Counts at their bounds that no fit has may pass them: the next call is refused then.
-        if (number || misplaced(c->settings[3], c->rec) || swapped(c->settings, c->rec)) differs("a pending call leaves a record of 9, or a number");
+        if (number || misplaced(c->settings[3], c->rec)) differs("a pending call leaves a record of 9, or a number");
         return;
     }
     ends++;
@@ -186,24 +174,15 @@ static void refused(const struct call *c, u64 number, const u64 *told) {
     unwritten(&first, c);
 }
 
-static int unresumable(const struct call *c) {
-    if (misplaced(c->settings[3], c->rec) || overcounted(c->rec)) return 1;
-    by_choice += swapped(c->settings, c->rec);
-    return swapped(c->settings, c->rec);
-}
-
-static int alone(u64 number, const u64 *set) { return number == 3 && set[8] && !set[6]; }
-
 static void one_resume(u64 seed) {
     struct call c;
     drawn(&c, 7000000, seed);
-    u64 expected = limits(&c) ? limits(&c) : unresumable(&c) ? 9 : 0;
+    u64 expected = limits(&c) ? limits(&c) : misplaced(c.settings[3], c.rec) || overcounted(c.rec) ? 9 : 0;
     u64 budget = below(4) ? below(8) ? below(below(2) ? 8 : 400) : between(0, 6000) : 0, number = resume(&c, budget);
     u64 told[ANSWER] = {3, expected};
     if (c.rec_len == RECORD) memcpy(told + 3, first.rec + 3, 3 * sizeof *told);
     resumes++;
     by_number[expected]++;
-    unnormalised += alone(expected, c.settings);
     if (expected) {
         refused(&c, number, told);
         return;
@@ -234,7 +213,6 @@ static void one_start(u64 seed) {
     u64 number = start(&c), told[ANSWER] = {3, expected, place};
     starts++;
     starts_by_number[expected]++;
-    starts_unnormalised += alone(expected, c.settings);
     if (expected) {
         refused(&c, number, told);
     } else if (number == 6 && c.settings[6]) {
@@ -279,11 +257,9 @@ static void tell(void) {
     printf("tampered %" PRIu64 " through %" PRIu64 " pending %" PRIu64 " without-a-step %" PRIu64 " ended %" PRIu64, resumes, let_through, still, stepless, ends);
     for (int i = 1; i < 10; i++)
         if (by_number[i]) printf(" tampered-%d %" PRIu64, i, by_number[i]);
-    printf(" choice-9 %" PRIu64 " choice-kept %" PRIu64 " unnormalised-3 %" PRIu64, by_choice, kept_choices, unnormalised);
     printf(" starts %" PRIu64, starts);
     for (int i = 1; i < 10; i++)
         if (starts_by_number[i]) printf(" starts-%d %" PRIu64, i, starts_by_number[i]);
-    printf(" starts-unnormalised-3 %" PRIu64, starts_unnormalised);
     printf(" others-1 %" PRIu64 " others-2 %" PRIu64, others_by_number[1], others_by_number[2]);
 }
 

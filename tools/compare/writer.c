@@ -1,5 +1,5 @@
-// Written from the documents alone, 01's "Training sheet" and 02's T-02 and T-04, and docs/RULES.md for the words: the refusals in their order, then the bytes in
-// theirs. Writes nothing but the place where it refuses.
+// Written from the documents alone, 01's "Training sheet" and 02's T-04, and docs/RULES.md for the words: the refusals in their order, then the bytes in theirs.
+// Writes nothing but the place where it refuses.
 #include <string.h>
 
 #include "calls.h"
@@ -64,7 +64,7 @@ u64 second_writing(int version, uint32_t family, const struct rows *r, struct ou
     next = put(put(next, r->n, 2), r->p, 2);
     for (int i = 0; i < 3; i++) next = put_real(next, r->settings[i]);
     next = put(next, r->settings[3], 4);
-    next = put(next, (r->settings[6] ? 1 : 0) + (r->settings[7] ? 2 : 0) + (r->settings[8] ? 4 : 0), 1);
+    next = put(next, (r->settings[6] ? 1 : 0) + (r->settings[7] ? 2 : 0), 1);
     for (size_t i = 0; i < r->n; i++) {
         next = put(put(next, r->sources[i], 2), r->targets[i], 2);
         for (size_t j = 0; j < r->p; j++) next = put_real(next, r->x[i * r->p + j]);

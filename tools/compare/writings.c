@@ -21,8 +21,7 @@ enum { LONGER = 300 }; // elements that a slice may have beyond its due ones
 static const int numbers[] = {1, 2, 3, 14, 15, 0}, words_numbers[] = {1, 2, 0};
 static struct tally versions[] = {{.name = "writer-1", .done_name = "written", .numbers = numbers, .words_numbers = words_numbers},
                                   {.name = "writer-2", .done_name = "written", .numbers = numbers, .words_numbers = words_numbers}};
-static u64 written_cancelled, written_paper; // among those written: with cancelled rows; with the paper's centring
-static u64 unnormalised, past_64_bits;       // refused, where that centring alone is at fault; too short, where a product in 64 bits finds room
+static u64 written_cancelled, past_64_bits; // with cancelled rows, among those written; too short, where a product in 64 bits finds room
 
 static u64 settings[SETTINGS + 1], x[MOST_X + LONGER], y[MOST_Y + LONGER];
 static uint16_t sources[MOST_Y + LONGER], targets[MOST_Y + LONGER];
@@ -48,22 +47,20 @@ static void take_rows(const struct paper *a) {
 
 static u64 some_real(double most) { return below(8) ? bits_of(most * unit()) : bits_of(below(2) ? most : below(2) ? 0.0 : -0.0); }
 
-// Truth is any word but 0; where the fit is not lazy its panels may be anything. The paper's centring is for fits that normalise.
+// Truth is any word but 0; where the fit is not lazy its panels may be anything.
 static void take_settings(void) {
     settings[0] = some_real(1e6), settings[1] = some_real(1.0), settings[2] = some_real(below(2) ? 1.0 : 0x1.fffffffffffffp1023);
     settings[3] = below(4) ? below(1001) : 1000;
-    settings[6] = below(2) ? (u64)1 << below(64) : 0, settings[7] = below(2) ? (u64)1 << below(64) : 0, settings[9] = word();
-    settings[8] = settings[6] && below(2) ? (u64)1 << below(64) : 0;
+    settings[6] = below(2) ? (u64)1 << below(64) : 0, settings[7] = below(2) ? (u64)1 << below(64) : 0, settings[8] = word();
     settings[4] = settings[7] ? between(1, 256) : word() >> below(64), settings[5] = settings[7] ? between(1, 32) : word() >> below(64);
 }
 
-// At a bound or beyond, a NaN of some pattern, or a number whose low half alone is in range; or the paper's centring without normalising.
+// At a bound or beyond, a NaN of some pattern, or a number whose low half alone is in range.
 static void other_setting(void) {
     static const double bounds[] = {1e6, 1.0, 0x1.fffffffffffffp1023};
     static const u64 most[] = {1000, 256, 32};
-    u64 which = below(7);
+    u64 which = below(6);
     if (which < 3) settings[which] = below(2) ? bits_of(bounds[which]) + 1 : below(3) ? any_float() : 0xfff0000000000000 | word();
-    else if (which == 6) settings[6] = 0, settings[8] = (u64)1 << below(64);
     else settings[which] = below(4) ? beside(most[which - 3]) : 1 | (u64)1 << between(32, 63);
 }
 
@@ -101,7 +98,7 @@ static void other_size(struct rows *r) {
 static void wrong_sizes(struct rows *r) {
     do switch (below(6)) {
     case 0: other_size(r); break;
-    case 1: r->settings_length = below(2) ? SETTINGS + (below(2) ? 1 : -1) : below(SETTINGS); break;
+    case 1: r->settings_length = below(2) ? SETTINGS + 1 : below(SETTINGS); break;
     case 2: r->sources_length = other_length(r->sources_length, LONGER); break;
     case 3: r->targets_length = other_length(r->targets_length, LONGER); break;
     case 4: r->x_length = other_length(r->x_length, LONGER); break;
@@ -166,8 +163,6 @@ void try_writing(const struct paper *a) {
     u64 due = second_writing(version, family, &r, (struct outputs){.out = out.due, .place = place.due, .out_length = out.count, .place_length = place.count});
     tallied(version, &r, due);
     written_cancelled += due == 0 && a->cancelled;
-    written_paper += due == 0 && r.settings[8];
-    unnormalised += due == 3 && r.settings[8] && !r.settings[6];
     u64 number = written(version, family, &r);
     same(version == 1 ? "number of a writing, version 1" : "number of a writing, version 2", &number, &due, 1);
     as_due(&place), as_due(&out);
@@ -175,6 +170,5 @@ void try_writing(const struct paper *a) {
 
 void tell_writings(void) {
     tell(&versions[0]), tell(&versions[1]);
-    printf(" written-cancelled %" PRIu64 " written-paper %" PRIu64 " writer-unnormalised-3 %" PRIu64 " writer-past-64-bits %" PRIu64, written_cancelled, written_paper,
-           unnormalised, past_64_bits);
+    printf(" written-cancelled %" PRIu64 " writer-past-64-bits %" PRIu64, written_cancelled, past_64_bits);
 }

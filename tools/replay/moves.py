@@ -5,12 +5,11 @@ from collections import namedtuple
 
 from generate import Random
 from refusals import ALL_ONES, INF, LARGEST, MINUS_INF, MINUS_ZERO, NAN, setting_bad
-from sheets import (BODY, FIELD, LAZY, NORMALISE, NOT_FINITE, PAPER, ROWS, THREE, front_refusal, gaps_for, gone, grown, mixed, row, row_refusal, rows_in, sheet,
-                    sizes, some_family, zeros)
+from sheets import (BODY, FIELD, LAZY, NORMALISE, NOT_FINITE, ROWS, THREE, front_refusal, gaps_for, gone, grown, mixed, row, row_refusal, rows_in, sheet, sizes,
+                    some_family, zeros)
 from words import bits
 
 UP, DOWN = 1, 2
-FLAGS = {"normalise": NORMALISE, "lazy": LAZY, "paper": PAPER}
 SEED, SHEETS = 5, 200  # of each version
 LARGER = {40: (30, 8), 60: (1, 64), 61: (1, 64), 81: (30, 3), 120: (50, 1), 160: (3, 16)}  # rows and features of some of them
 FAMILY = 0x0A0B0C0D
@@ -41,7 +40,7 @@ def some_rows(r, k):
 
 def some_settings(r):
     """Each is allowed."""
-    lazy, normalise = r.below(2), r.below(2)
+    lazy = r.below(2)
     return {
         "alpha": r.pick([0, MINUS_ZERO, bits(1e6), bits(r.between(0.0, 2.0))]),
         "l1_ratio": r.pick([0, MINUS_ZERO, bits(1.0), bits(r.unit())]),
@@ -49,28 +48,21 @@ def some_settings(r):
         "M": r.pick([0, 1000, r.whole(1, 999)]),
         "R": r.pick([1, 256, r.whole(2, 255)]) if lazy else r.pick([0, ALL_ONES, 257]),
         "C": r.pick([1, 32, r.whole(2, 31)]) if lazy else r.pick([0, ALL_ONES, 33]),
-        "normalise": normalise,
+        "normalise": r.below(2),
         "lazy": lazy,
-        "paper": normalise and r.below(2),
     }
 
 
-def flags_of(c):
-    """A word that is not 0 is yes."""
-    return sum(flag for name, flag in FLAGS.items() if c[name])
-
-
 def drawn():
-    """Version, family, rows and settings of each sheet. All flags that exist are among them."""
+    """Version, family, rows and settings of each sheet."""
     r = Random(SEED)
-    found = [(version, some_family(r), some_rows(r, k), some_settings(r)) for version in (1, 2) for k in range(SHEETS)]
-    assert {flags_of(c) for *_, c in found} == {0, 1, 2, 3, 5, 7}
-    return found
+    return [(version, some_family(r), some_rows(r, k), some_settings(r)) for version in (1, 2) for k in range(SHEETS)]
 
 
 def bytes_of(version, family, rows, c):
+    flags = NORMALISE * c["normalise"] + LAZY * c["lazy"]
     return sheet(rows, p=len(rows[0][2]), version=version, family=None if version == 1 else family, alpha=c["alpha"], ratio=c["l1_ratio"], tol=c["tol"],
-                 rounds=c["M"], flags=flags_of(c))
+                 rounds=c["M"], flags=flags)
 
 
 def longer(k, due):
@@ -142,7 +134,7 @@ def front_faults(version):
     yield from ((12, 0, whole(version, ROWS, p=p)) for p in (0, 2, 65535))
     yield 12, 0, whole(version, ROWS, off=1, flags=4)
     yield 12, 0, whole(version, row(ROWS, 0, source=0), n=3)
-    yield from ((13, 0, whole(version, ROWS, flags=flags)) for flags in (4, 6, 8, 9, 128, 255))
+    yield from ((13, 0, whole(version, ROWS, flags=flags)) for flags in (4, 128, 255))
     yield 13, 0, whole(version, row(ROWS, 0, source=0), flags=4)
     yield 13, 0, whole(version, [ROWS[1], ROWS[0]], flags=4)
     yield 13, 0, whole(version, [], flags=4)
@@ -210,7 +202,7 @@ def call(version, rows, family=FAMILY, **changes):
     """The rows to the writer, and an output as long as is due, but for the changes."""
     wide = [(s, t, *map(word_of, [*x, y])) for s, t, x, y in rows]
     c = {"version": version, "family": family if version == 2 else 0, "n": len(rows), "p": len(rows[0][2]) if rows else 1,
-         "alpha": bits(0.5), "l1_ratio": bits(0.5), "tol": bits(0.001), "M": 10, "R": 4, "C": 2, "normalise": 0, "lazy": 0, "paper": 0,
+         "alpha": bits(0.5), "l1_ratio": bits(0.5), "tol": bits(0.001), "M": 10, "R": 4, "C": 2, "normalise": 0, "lazy": 0,
          "sources": [x[0] for x in wide], "targets": [x[1] for x in wide], "x": [word for x in wide for word in x[2:-1]], "y": [x[-1] for x in wide]}
     c.update(changes)
     return {"room": bytes_due(c), **c}
@@ -264,7 +256,6 @@ def sizes_given(version):
     yield from ((1, 0, call(version, grown(n, p))) for n, p in ((1, 0), (3, 0), (1, 65)))
     yield 1, 0, call(version, [], n=4097)
     yield 1, 0, call(version, grown(2, 65), sources=[0, 0], alpha=NAN)
-    yield 1, 0, call(version, grown(1, 65), paper=1)
     yield 1, 0, call(version, [], n=1, p=65)
     # what is in range is 2, by the slices
     yield 2, 0, call(version, [], n=4096)
@@ -284,7 +275,6 @@ def slices_given(version):
     yield 2, 0, {**c, "y": c["y"][:2]}
     yield 2, 0, {**c, "x": c["x"][:-1], "alpha": NAN}
     yield 2, 0, {**c, "sources": [0], "M": 1001}
-    yield 2, 0, {**c, "y": c["y"][:-1], "paper": 1}
 
 
 BAD_SETTINGS = [
@@ -295,17 +285,14 @@ BAD_SETTINGS = [
     *({"R": count, "lazy": 1} for count in (0, 257, ALL_ONES)),
     *({"C": count, "lazy": 1} for count in (0, 33, ALL_ONES)),
 ]
-UNNORMALISED = [*({"paper": word} for word in (1, 2, 1 << 63, ALL_ONES)), {"paper": 1, "lazy": 1}, {"paper": 1, "M": 0}]
 
 
 def settings_given(version):
-    """3, and what is ahead of 14. R and C are tested where lazy alone, and the choice of the centring wants normalising."""
-    yield from ((3, 0, call(version, THREE, **setting)) for setting in BAD_SETTINGS + UNNORMALISED)
+    """3, and what is ahead of 14. R and C are tested where lazy alone."""
+    yield from ((3, 0, call(version, THREE, **setting)) for setting in BAD_SETTINGS)
     yield 3, 0, call(version, row(ROWS, 0, source=0), tol=NAN)
     yield 3, 0, call(version, [ROWS[1], ROWS[0]], M=1001)
-    yield 3, 0, call(version, row(ROWS, 0, source=0), paper=1)
     yield from ((0, 0, call(version, THREE, **{**setting, "lazy": 0})) for setting in BAD_SETTINGS if "lazy" in setting)
-    yield from ((0, 0, call(version, THREE, normalise=word, **setting)) for word in (1, 2) for setting in UNNORMALISED)
 
 
 def taken(version):

@@ -1,24 +1,22 @@
 """Calls of the lone solver, start, resume and predict, most of them refused, and the table of their answers. The answers are worked out here, from 01's sizes,
-pausing and refusal numbers and 02's T-02; no answer of the program is read."""
+pausing and refusal numbers; no answer of the program is read."""
 import math
 
 from words import bits, number
 
 START, RESUME, PREDICT, SOLVE = range(4)
 OPENING, SOLVING, SEARCHING, ENDED = range(4)
-# `paper` is the settings' choice of the centring, `choice` the record's, which is headed by the same name.
-WORDS = ("call n p alpha l1_ratio tol M R C normalise lazy paper matrix targets weights scratch value from times apart "
-         "stage index round rounds solver trials t s dual pcgtol bnrm bkden error phi gdx missed choice budget").split()
-SETTINGS, SLICES, VALUE, RECORD, SCALARS = WORDS[3:12], WORDS[12:16], WORDS[16:20], WORDS[20:26], WORDS[26:35]
+WORDS = ("call n p alpha l1_ratio tol M R C normalise lazy matrix targets weights scratch value from times apart "
+         "stage index round rounds solver trials t s dual pcgtol bnrm bkden error phi gdx missed budget").split()
+SETTINGS, SLICES, VALUE, RECORD, SCALARS = WORDS[3:11], WORDS[11:15], WORDS[15:19], WORDS[19:25], WORDS[25:34]
 # The words that a call takes and shows. A prediction's targets are the slice that it writes; the solver's targets and weights are right side and start.
 TAKES = {
     START: ["n", "p"] + SETTINGS + ["matrix", "targets", "scratch"] + VALUE,
-    RESUME: ["n", "p"] + SETTINGS + SLICES + VALUE + RECORD + ["choice", "budget"],
+    RESUME: ["n", "p"] + SETTINGS + SLICES + VALUE + RECORD + ["budget"],
     PREDICT: ["n", "p", "matrix", "targets", "weights"] + VALUE,
     SOLVE: ["n", "tol", "M"] + SLICES + VALUE,
 }
 CALLED = {
-    RESUME: {"choice": "paper"},
     PREDICT: {"targets": "out"},
     SOLVE: {"n": "order", "targets": "right", "weights": "start", "tol": "tolerance", "M": "limit"},
 }
@@ -50,8 +48,6 @@ def setting_bad(c):
     if not 0 <= alpha <= 1000000 or not 0 <= ratio <= 1:
         return True
     if not math.isfinite(tol) or tol < 0 or c["M"] > 1000:
-        return True
-    if c["paper"] and not c["normalise"]:
         return True
     return bool(c["lazy"]) and not (1 <= c["R"] <= 256 and 1 <= c["C"] <= 32)
 
@@ -102,7 +98,7 @@ def start(c):
 def impossible(c):
     """9, clause by clause."""
     stage, limit, fresh = c["stage"], c["M"], c["round"] == 0
-    if stage >= ENDED or bool(c["choice"]) != bool(c["paper"]):
+    if stage >= ENDED:
         return True
     if stage == SOLVING and not 1 <= c["index"] <= 4999:
         return True
@@ -249,7 +245,6 @@ def constants():
     # equal values: the computed variance is below 0, above 0, 0, and NaN
     for value in (0.1, 0.3, 1.1, 1e200):
         yield case(START, 3, 2, normalise=1, **spoilt(bits(value), 0, 3, 2))
-    yield case(START, 3, 2, normalise=1, paper=1, **spoilt(bits(1.0), 1, 3, 2))
     # the fit is refused by its values before it is by its columns
     yield case(START, 1, 2, normalise=1, **spoilt(NAN, 1))
     yield case(START, 1, 2, normalise=1, **spoilt(INF, 2))
@@ -263,20 +258,6 @@ def neighbours(call):
     yield case(call, M=1001, short=1)
     yield case(call, lazy=1, R=257, scratch=100)
     yield case(call, matrix=1, short=1)
-
-
-def unnormalised(call, **record):
-    """The choice without normalising: 3, whatever its word is, behind 2 and ahead of 4."""
-    for paper in (1, 2, 1 << 63, ALL_ONES):
-        yield case(call, paper=paper, **record)
-    for more in ({"lazy": 1}, {"M": 0}, {"M": 0, "lazy": 1}, {"n": 0}, {"p": 65}, {"matrix": 1}, {"targets": 3}, {"short": 1}, {"scratch": 0}, spoilt(NAN, 0)):
-        yield case(call, paper=1, **record, **more)
-    # normalised it is allowed, whatever the two words are, and the scratch that it needs is the same
-    for words in ({"normalise": 1, "paper": 1}, {"normalise": 1 << 63, "paper": 2}, {"normalise": 2, "paper": ALL_ONES}):
-        yield case(call, **record, **words)
-    for lazy in (0, 1):
-        for short in (0, 1):
-            yield case(call, 3, 2, normalise=1, paper=1, lazy=lazy, short=short, **record)
 
 
 def start_pairs():
@@ -307,26 +288,6 @@ def stages():
     yield record(OPENING, 5000, 0, 0)
     # a yes that is not 1, and a NaN of another pattern: without a step they stay
     yield record(OPENING, 0, 0, 0, missed=2, t=NAN + 1)
-
-
-def choices():
-    """A record whose choice is not the settings': 9, both ways round, at each stage and with any budget, behind 1 to 4. Words for yes are alike."""
-    for paper, choice in ((1, 0), (0, 1), (0, 2), (ALL_ONES, 0), (0, ALL_ONES), (1, 1), (1, 2), (2, 1), (1 << 63, ALL_ONES), (0, 0)):
-        for stage, index, rounds in ((OPENING, 0, 0), (SOLVING, 1, 1), (SEARCHING, 0, 1)):
-            yield record(stage, index, 0, rounds, normalise=1, paper=paper, choice=choice)
-        yield record(OPENING, 0, 0, 0, normalise=1, paper=paper, choice=choice, M=0)
-    for paper, choice in ((1, 0), (0, 1)):
-        for more in ({"budget": 5}, {"lazy": 1}, {"stage": ENDED}, {"short": 1}, {"alpha": NAN}, {"weights": 0}, {"n": 0}, spoilt(NAN, 0, 4)):
-            yield case(RESUME, normalise=1, paper=paper, choice=choice, **more)
-    yield record(ENDED, 0, 0, 0, normalise=1, paper=1, choice=1)
-    # 3 goes before it, and no settings without normalising have the choice
-    for stage in (OPENING, ENDED):
-        for choice in (0, 1):
-            yield record(stage, 0, 0, 0, paper=1, choice=choice, M=0)
-    yield record(OPENING, 0, 0, 0, choice=1)
-    yield record(OPENING, 0, 0, 0, choice=1, M=0)
-    # without a step nothing is written anew
-    yield record(OPENING, 5000, 0, 0, normalise=1, paper=1, choice=2, missed=2, t=NAN + 1)
 
 
 def limit_rounds():
@@ -446,14 +407,11 @@ def cases():
     yield from start_values()
     yield from constants()
     yield from start_pairs()
-    yield from unnormalised(START)
     yield from sizes(RESUME)
     yield from lengths(RESUME, ("matrix", "targets", "weights"))
     yield from scratches(RESUME)
     yield from resume_rest()
-    yield from unnormalised(RESUME, choice=1)
     yield from stages()
-    yield from choices()
     yield from limit_rounds()
     yield from counts()
     yield from sizes(PREDICT)

@@ -10,13 +10,12 @@ import sys
 from generate import Random
 from words import number
 
-NORMALISE, LAZY, PAPER = 1, 2, 4
-MODES = (0, NORMALISE, LAZY, NORMALISE | LAZY, NORMALISE | PAPER, NORMALISE | LAZY | PAPER)
+NORMALISE, LAZY = 1, 2
 LIMIT = 35882
 BODY = {1: 5, 2: 9}  # where it begins
 FIELD = 1 << 32  # 4 bytes hold less
 NAN, INF = math.nan, math.inf
-SEED, AGAIN = 3, 150  # of the cancelled rows that are mixed into stored fits; how many fits
+SEED, AGAIN = 3, 120  # of the cancelled rows that are mixed into stored fits; how many fits
 FAMILY_SEED = 4
 NOT_FINITE = (0x7ff8000000000000, 0xfff8000000000000, 0x7ff0000000000001, 0xffffffffffffffff, 0x7ff0000000000000, 0xfff0000000000000)
 
@@ -102,8 +101,7 @@ def front_refusal(data, versions):
     head, (n, p) = BODY[data[0]] + 33, sizes(data)
     if len(data) < head or int.from_bytes(data[1:5], "big") != len(data) - 5 or len(data) != head + n * (12 + 8 * p):
         return 12, 0
-    flags = data[head - 1]
-    return (13, 0) if flags > 7 or (flags & PAPER and not flags & NORMALISE) else None
+    return (13, 0) if data[head - 1] > 3 else None
 
 
 def frame_refusal(data):
@@ -209,11 +207,11 @@ def alone():
     for size in (LIMIT, LIMIT + 1):
         yield from (bytes([version]) + bytes(size - 1) for version in (0, 1))
     # a sheet of the largest length, with flags and n that are refused
-    yield from (sheet(grown(309, 13), p=13, flags=flags) for flags in (7, 8))
+    yield from (sheet(grown(309, 13), p=13, flags=flags) for flags in (3, 4))
 
 
 def frames():
-    """11, 12, 13 and 16; 13 with each byte that flags can be. With a byte more the largest sheet is 12 in version 1, and 16 in version 2."""
+    """11, 12, 13 and 16. With a byte more the largest sheet is 12 in version 1, and 16 in version 2."""
     for off in (-5, -4, -1, 1, 4, 5):
         yield draft(ROWS, off=off)
     for length in (0, 0x49000000, 0x4d000000, FIELD - 1):
@@ -225,15 +223,15 @@ def frames():
         yield draft(ROWS, n=n)
     for p in (0, 2, 65535):
         yield draft(ROWS, p=p)
-    yield from (draft(ROWS, off=1, flags=flags) for flags in (4, 8))
+    yield draft(ROWS, off=1, flags=4)
     yield draft([], n=2)
     yield draft([], more=-1)
     yield draft([], off=-1, more=-1)
-    yield from (draft(ROWS, flags=flags) for flags in range(256))
-    for flags in (4, 6, 8):
-        yield draft(row(ROWS, 0, source=0), flags=flags)
-        yield draft([], flags=flags)
-        yield draft(grown(257, 1), flags=flags)
+    for flags in (1, 2, 3, 4, 128, 255):
+        yield draft(ROWS, flags=flags)
+    yield draft(row(ROWS, 0, source=0), flags=4)
+    yield draft([], flags=4)
+    yield draft(grown(257, 1), flags=4)
     for n, p in ((257, 0), (257, 1), (0, 17), (1, 17), (0, 65535)):
         yield draft(grown(n, p), p=p)
     yield draft(row(grown(257, 1), 0, source=0))
@@ -283,7 +281,7 @@ def starts():
     for rounds in (1001, 0xFFFFFFFF):
         yield draft(ROWS, rounds=rounds)
     yield draft(row(ROWS, 0, x=(0, NAN)), rounds=1001)
-    yield from (draft(column(FOUR, 0, [1.0] * 4), p=3, flags=flags, tol=-1.0) for flags in (NORMALISE, NORMALISE | PAPER))
+    yield draft(column(FOUR, 0, [1.0] * 4), p=3, flags=NORMALISE, tol=-1.0)
     for value in (NAN, INF, -INF):
         for i, j in ((0, 0), (1, 2), (3, 2)):
             yield draft(row(FOUR, i, x=(j, value)), p=3)
@@ -293,8 +291,7 @@ def starts():
     yield draft(row(row(FOUR, 2, x=(0, NAN)), 1, x=(1, NAN)), p=3)
     yield draft(row(column(FOUR, 0, [1.0] * 4), 3, y=INF), p=3, flags=NORMALISE)
     yield draft(row(MOST, 255, y=NAN), p=16, flags=NORMALISE | LAZY)
-    yield draft(row(FOUR, 2, y=INF), p=3, flags=NORMALISE | LAZY | PAPER)
-    for flags in MODES:
+    for flags in (0, NORMALISE, LAZY, NORMALISE | LAZY):
         for j in range(3):
             yield draft(column(FOUR, j, [2.0] * 4), p=3, flags=flags)
     yield draft(column(column(FOUR, 1, [0.0] * 4), 2, [2.0] * 4), p=3, flags=NORMALISE)
@@ -346,8 +343,7 @@ def cancelled_beside():
     yield draft(row(HOLES, 4, y=NAN), p=3)
     yield draft(column(HOLES, 1, [7.0, 2.0, 2.0, 8.0, 2.0, 2.0]), p=3, flags=NORMALISE)
     yield draft(column(HOLES, 2, [2.0, 0.5, 0.5, NAN, 0.5, 0.5]), p=3, flags=NORMALISE | LAZY)
-    yield from (draft([ROWS[0], gone(2)], flags=flags) for flags in (NORMALISE, NORMALISE | PAPER))
-    yield draft(THREE, flags=NORMALISE | PAPER)
+    yield draft([ROWS[0], gone(2)], flags=NORMALISE)
 
 
 def cut():

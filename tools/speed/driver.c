@@ -113,9 +113,9 @@ static const struct piece {
 
 static uint64_t settings[XANGORAVIT_SETTINGS], record[XANGORAVIT_RECORD], answer[XANGORAVIT_ANSWER];
 
-// Of a fit that normalises and is centred as by the Rust, of `limit` rounds with a tolerance that none reaches; without a limit, of as many as 1e-4 takes.
+// Of a fit that normalises, of `limit` rounds with a tolerance that none reaches; without a limit, of as many as 1e-4 takes.
 static void set(int lazy, const char *limit) {
-    const uint64_t all[] = {bits_of(ALPHA), bits_of(L1_RATIO), bits_of(limit ? 0.0 : 1e-4), limit ? strtoul(limit, NULL, 10) : 1000, PANEL_ROWS, PANEL_COLS, 1, lazy, 0};
+    const uint64_t all[] = {bits_of(ALPHA), bits_of(L1_RATIO), bits_of(limit ? 0.0 : 1e-4), limit ? strtoul(limit, NULL, 10) : 1000, PANEL_ROWS, PANEL_COLS, 1, lazy};
     memcpy(settings, all, sizeof all);
 }
 

@@ -7,7 +7,7 @@ use lib.ListN.{length}
 use lib.Ieee.{Float}
 use Rattle.arrays.proofs.Part.{length-tab}
 use Rattle.arrays.specs.Sums.{plus0}
-use Rattle.arrays.proofs.Lengths.{length-fill}
+use Rattle.arrays.proofs.Lengths.{length-map, length-fill}
 use Rattle.matrices.proofs.Grid.{length-grid}
 use Rattle.settings.specs.declared.Terms.{Terms}
 use Rattle.layout.specs.declared.Sizes.{Sizes}
@@ -17,9 +17,9 @@ use Rattle.layout.specs.Slots.{Slot.U, Slot.F, Slot.CENTRE, Slot.SCALE, Slot.REC
 use Rattle.lazy_normalization.specs.Lazy.{recip_store}
 use Rattle.lazy_gram.specs.Gram.{lazy_gram_store}
 use Rattle.lazy_gram.proofs.Whole.{length-lazy-gram}
-use Rattle.design.specs.Statistics.{statistics_store, targets_store}
+use Rattle.design.specs.Statistics.{centred_of, statistics_store, targets_store}
 use Rattle.design.specs.Eager.{design_of, design_store, gram_of, gram_store}
-use Rattle.design.proofs.Lengths.{length-centres, length-scales, length-centred}
+use Rattle.design.proofs.Lengths.{length-centres, length-scales}
 use Rattle.beginning.specs.Start.{blank_store, prepared_store, start_store}
 
 module _ (sh : Sizes) where
@@ -48,9 +48,9 @@ module _ (sh : Sizes) where
   gram-sized v z = upd-sized sh v GRAM _ z (length-grid _ sh.p sh.p)
 
   module _ (all : sh.k ≡ sh.n + sh.p) where
-    targets-sized : (tm : Terms) (ys : List Float) (v : Store) → Sized v → Sized (targets_store sh tm ys v)
-    unfolding targets_store
-    targets-sized tm ys v z = upd-sized sh v Y _ z (length-centred tm.paper sh.n sh.p ys ∙ sym all)
+    targets-sized : (ys : List Float) (v : Store) → Sized v → Sized (targets_store sh ys v)
+    unfolding targets_store centred_of
+    targets-sized ys v z = upd-sized sh v Y _ z (length-map _ _ _ ∙ sym all)
 
     module _ (stored : sh.lazy ≡ false → sh.stored ≡ sh.k) (normalise : Bool) (tm : Terms) (m : List Float) where
       design-sized : (v : Store) → sh.lazy ≡ false → Sized v → Sized (design_store sh normalise tm m v)
@@ -70,4 +70,4 @@ pub start-sized : (sh : Sizes) (normalise : Bool) (tm : Terms) (m ys : List Floa
     → (s : Slot) → length (start_store sh normalise tm m ys s) ≡ size sh s
 unfolding start_store
 start-sized sh normalise tm m ys all stored =
-    prepared-sized sh all stored normalise tm m _ (targets-sized sh all tm ys _ (statistics-sized sh normalise m _ (blank-sized sh)))
+    prepared-sized sh all stored normalise tm m _ (targets-sized sh all ys _ (statistics-sized sh normalise m _ (blank-sized sh)))

@@ -25,7 +25,7 @@ prepared_store sh normalise tm m v =
 
 -- a fresh fit, each part from those before it: statistics, targets, then the design and its Gram
 unfoldable pub start_store : Sizes → Bool → Terms → List Float → List Float → Store
-start_store sh normalise tm m ys = prepared_store sh normalise tm m (targets_store sh tm ys (statistics_store sh normalise m (blank_store sh)))
+start_store sh normalise tm m ys = prepared_store sh normalise tm m (targets_store sh ys (statistics_store sh normalise m (blank_store sh)))
 
 -- a matrix of n by p, sizes of a fit, and scratch
 pub record Begins (sh : Sizes) (l : Places) (m s : List Float) : Type 0 where

@@ -57,17 +57,17 @@ pub fn begin(
 {
     blank(s, sh, l, need);
     statistics(m, sh, normalise, s, l);
-    targets(y, sh, tm, s, l);
+    targets(y, sh, s, l);
     prepare(m, sh, normalise, tm, s, l);
     sweep(s, 0, need);
 }
 
-// The scalars before the first round: t by its formula, s infinite, so that the first round may raise t, the choice, and the others +0.
-pub fn fresh_scalars(p: usize, tm: Terms) -> Scalars
+// The scalars before the first round: t by its formula, s infinite, so that the first round may raise t, and the others +0.
+pub fn fresh_scalars(p: usize, lambda: f64) -> Scalars
     requires { p < 2 ^ 32 }
-    ensures { result ≡ fresh p tm }
+    ensures { result ≡ fresh p lambda }
 {
-    let t = first_t(p, tm.lambda);
+    let t = first_t(p, lambda);
     Scalars {
         t: canonical(t),
         s: 1.0 / 0.0,
@@ -79,6 +79,5 @@ pub fn fresh_scalars(p: usize, tm: Terms) -> Scalars
         phi: 0.0,
         gdx: 0.0,
         missed: false,
-        paper: tm.paper,
     }
 }

@@ -6,7 +6,7 @@ use Rattle.records.specs.Record.{counts_back}
 use Rattle.elastic_net.specs.ElasticNet.{refused}
 use Rattle.refusal.specs.declared.Refusal.TheVariants.{Size, Length}
 use Rattle.refusal.specs.Refusal.{number_of, place_of}
-use Rattle.c_words.specs.Words.{record-words, paused_from}
+use Rattle.c_words.specs.Words.{paused_from}
 use Rattle.c_answers.specs.Answers.{answer_words}
 
 -- the number of a refusal, or 0; the record's and the answer's words, weights and scratch
@@ -21,6 +21,6 @@ unread ranged c rw aw w s =
     let r = cond ranged Length Size in
     called (number_of r) rw (cond (eqb (length aw) 7) (answer_words (refused (number_of r) (place_of r)) c) aw) w s
 
--- the counts of a record that has its words
+-- the counts of a record that has its 16 words
 unfoldable pub counts_in : List ℕ → Counts
-counts_in rw = cond (eqb (length rw) record-words) (paused_from rw).counts (counts_back none)
+counts_in rw = cond (eqb (length rw) 16) (paused_from rw).counts (counts_back none)

@@ -6,12 +6,12 @@ ghost use Rattle.refusal.specs.Sizes.{in_size};
 ghost use Rattle.refusal.specs.Refusal.{number_of, place_of};
 ghost use Rattle.elastic_net.specs.ElasticNet.{Said.refused as refused_said, said, said_s};
 ghost use Rattle.c_values.specs.Settings.{settings-words};
-ghost use Rattle.c_words.specs.Words.{record-words, paused_words};
+ghost use Rattle.c_words.specs.Words.{paused_words};
 ghost use Rattle.c_answers.specs.Answers.{keeps, told_of, started_said, started_record, told_predicted, told_solved, way_of};
 ghost use Rattle.c_answers.specs.Called.{Called.called, unread, counts_in};
 
 use c_values::SETTINGS_WORDS;
-use c_words::{RECORD_WORDS, Told, paused_from, write_answer, write_paused};
+use c_words::{Told, paused_from, write_answer, write_paused};
 use elastic_net::{Answer, Started};
 use numbers::bits::bits_of;
 use prediction::Predicted;
@@ -31,7 +31,7 @@ fn stays(a: Answer, budget: u64) -> bool
 
 // The words of the record that a resuming call hands back, unless they stay.
 pub fn write_resumed(a: Answer, next: Paused, budget: u64, out: &mut [u64])
-    requires { length out.old ≡ record-words }
+    requires { length out.old ≡ 16 }
     ensures { out.new ≡ cond (keeps (said a) budget) out.old (paused_words next) }
 {
     if stays(a, budget) {
@@ -42,7 +42,7 @@ pub fn write_resumed(a: Answer, next: Paused, budget: u64, out: &mut [u64])
 
 // The words of a fresh record; a start that is refused leaves them.
 pub fn write_started(o: Started, out: &mut [u64])
-    requires { length out.old ≡ record-words }
+    requires { length out.old ≡ 16 }
     ensures { out.new ≡ started_record (said_s o) out.old }
 {
     if let Started::Ready(a) = o {
@@ -141,22 +141,22 @@ pub fn solved(o: lone_solver::Answer) -> Told
 
 // Settings, record and answer have the words that are due.
 pub fn due(settings: usize, rec: usize, answer: usize) -> bool
-    ensures { result ≡ (eqb settings settings-words && eqb rec record-words && eqb answer 7) }
+    ensures { result ≡ (eqb settings settings-words && eqb rec 16 && eqb answer 7) }
 {
     if settings != SETTINGS_WORDS {
         return false;
     }
-    if rec != RECORD_WORDS {
+    if rec != 16 {
         return false;
     }
     answer == 7
 }
 
-// The counts that an answer shows with a wrong number of words: the record's, or 0 where it has not its own.
+// The counts that an answer shows with a wrong number of words: the record's, or 0 where it has not its 16.
 pub fn counts_in(rec: &[u64]) -> Counts
     ensures { result ≡ counts_in rec.now }
 {
-    if rec.len() != RECORD_WORDS {
+    if rec.len() != 16 {
         return no_counts();
     }
     let a = paused_from(rec);

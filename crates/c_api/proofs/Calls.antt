@@ -29,7 +29,7 @@ use Rattle.lone_solver.specs.declared.Answer.TheVariants.{Solved as SolvedL, Ref
 use Rattle.lone_solver.specs.Solve.{Outcome.outcome as outcome_l, solve_of}
 use Rattle.c_words.specs.declared.Told.{Told}
 use Rattle.c_values.specs.Settings.{settings-words, settings_from}
-use Rattle.c_words.specs.Words.{record-words, paused_from, paused_words, told_words}
+use Rattle.c_words.specs.Words.{paused_from, paused_words, told_words}
 use Rattle.c_answers.specs.Answers.{answer_words, keeps, told_of, started_said, started_record, told_predicted, told_solved}
 use Rattle.c_answers.specs.Called.{Called, called, unread, counts_in}
 use Rattle.c_api.specs.Calls.{scratch_words_of, resumed_as, resume_words, started_as, start_words, predicted_as, predict_words, solved_as, solve_words}
@@ -37,18 +37,18 @@ use Rattle.c_api.specs.Calls.{scratch_words_of, resumed_as, resume_words, starte
 -- ---- the words that are due
 
 abbrev pub Due : ℕ → ℕ → ℕ → Bool
-Due a b c = eqb a settings-words && eqb b record-words && eqb c 7
+Due a b c = eqb a settings-words && eqb b 16 && eqb c 7
 
 pub record Lengths (a b c : ℕ) : Type 0 where
   pub settings : a ≡ settings-words
-  pub paused : b ≡ record-words
+  pub paused : b ≡ 16
   pub answer : c ≡ 7
 
 pub lengths : (a b c : ℕ) → Due a b c ≡ true → Lengths a b c
 lengths a b c h =
-    let (l, r) = both_true (eqb a settings-words && eqb b record-words) (eqb c 7) h in
-    let (x, y) = both_true (eqb a settings-words) (eqb b record-words) l in
-    record { settings = eqb-true a settings-words x; paused = eqb-true b record-words y; answer = eqb-true c 7 r }
+    let (l, r) = both_true (eqb a settings-words && eqb b 16) (eqb c 7) h in
+    let (x, y) = both_true (eqb a settings-words) (eqb b 16) l in
+    record { settings = eqb-true a settings-words x; paused = eqb-true b 16 y; answer = eqb-true c 7 r }
 
 -- ---- the words of scratch
 

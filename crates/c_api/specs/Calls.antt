@@ -13,7 +13,7 @@ use Rattle.lone_solver.specs.declared.Answer.TheVariants.{Solved as SolvedL, Ref
 use Rattle.lone_solver.specs.Solve.{Outcome as OutcomeL, Outcome.outcome as outcome_l, solve_of}
 use Rattle.c_values.specs.Values.{bits}
 use Rattle.c_values.specs.Settings.{settings-words, settings_from}
-use Rattle.c_words.specs.Words.{record-words, paused_from, paused_words}
+use Rattle.c_words.specs.Words.{paused_from, paused_words}
 use Rattle.c_answers.specs.Answers.{number_in, answer_words, keeps, started_said, started_record}
 use Rattle.c_answers.specs.Called.{Called, called, unread, counts_in}
 
@@ -33,7 +33,7 @@ resumed_as rw b o =
 -- n, p, matrix, targets, settings, record, scratch, weights, budget, answer
 unfoldable pub resume_words : ℕ → ℕ → List Float → List Float → List ℕ → List ℕ → List Float → List Float → ℕ → List ℕ → Called
 resume_words n p x y sw rw s w b aw =
-    cond (eqb (length sw) settings-words && eqb (length rw) record-words && eqb (length aw) 7)
+    cond (eqb (length sw) settings-words && eqb (length rw) 16 && eqb (length aw) 7)
     (resumed_as rw b (resume_of n p x y (settings_from sw) (paused_from rw) s w b))
     (unread (in_size n p) (counts_in rw) rw aw w s)
 
@@ -47,7 +47,7 @@ started_as rw o =
 -- n, p, matrix, targets, settings, record, scratch, answer
 unfoldable pub start_words : ℕ → ℕ → List Float → List Float → List ℕ → List ℕ → List Float → List ℕ → Called
 start_words n p x y sw rw s aw =
-    cond (eqb (length sw) settings-words && eqb (length rw) record-words && eqb (length aw) 7)
+    cond (eqb (length sw) settings-words && eqb (length rw) 16 && eqb (length aw) 7)
     (started_as rw (start_of n p x y (settings_from sw) s))
     (unread (in_size n p) (counts_back none) rw aw [] s)
 

@@ -64,7 +64,7 @@ module _ (n p : ℕ) (x y : List Float) (st : Settings) where
   answered a s w b =
       let sh = sizes_of n p st in
       by-check (limits_of n p (length x) (length y) (length w) st (length s)) a w s _
-      (by-check (cond (possible_of st.max_iter st.paper a) Fine (Bad Record)) a w s _
+      (by-check (cond (possible_of st.max_iter a) Fine (Bad Record)) a w s _
       (shown-answered sh st.normalise (terms_of st n).gamma y (rest sh s) w (call (parts_of n p x st) st.max_iter b (state_of a (vars sh s)))))
 
   answered_s : (s : List Float) → AnsweredS (start_of n p x y st s).answer

@@ -34,7 +34,7 @@ use Rattle.promises.proofs.Calls.{parts_of}
 use Rattle.promises.proofs.Corners.{budget-0}
 use Rattle.c_values.specs.Values.{word}
 use Rattle.c_values.specs.Settings.{settings-words, settings_from}
-use Rattle.c_words.specs.Words.{record-words, paused_from, paused_words}
+use Rattle.c_words.specs.Words.{paused_from, paused_words}
 use Rattle.c_words.proofs.Words.{read_fits}
 use Rattle.c_answers.specs.Answers.{kind_of, answer_words, keeps}
 use Rattle.c_answers.specs.Called.{called, unread}
@@ -72,7 +72,7 @@ kind-pending (converged b c) h = absurd (omega arith)
 kind-pending (limit b c) h = absurd (omega arith)
 kind-pending (refused k i) h = absurd (omega arith)
 
-long-record : (a : Paused) → length (paused_words a) ≡ record-words
+long-record : (a : Paused) → length (paused_words a) ≡ 16
 unfolding paused_words
 long-record a = refl
 
@@ -85,7 +85,7 @@ module _ (n p : ℕ) (x y : List Float) (sw pw : List ℕ) (s : List Float) (aw 
     pub paused : Paused
     pub starts : Starts n p x y (settings_from sw) s (ReadyS paused) s'
     pub back : paused_from pw' ≡ paused
-    pub long : length pw' ≡ record-words
+    pub long : length pw' ≡ 16
 
   record Due : Type 0 where
     settings : length sw ≡ settings-words
@@ -93,11 +93,11 @@ module _ (n p : ℕ) (x y : List Float) (sw pw : List ℕ) (s : List Float) (aw 
 
   due : Due
   unfolding start_words unread
-  due = go (eqb (length sw) settings-words && eqb (length pw) record-words && eqb (length aw) 7) refl where
-    go : (b : Bool) → (eqb (length sw) settings-words && eqb (length pw) record-words && eqb (length aw) 7) ≡ b → Due
+  due = go (eqb (length sw) settings-words && eqb (length pw) 16 && eqb (length aw) 7) refl where
+    go : (b : Bool) → (eqb (length sw) settings-words && eqb (length pw) 16 && eqb (length aw) 7) ≡ b → Due
     go true q =
-        let (l, r) = both_true (eqb (length sw) settings-words && eqb (length pw) record-words) (eqb (length aw) 7) q in
-        record { settings = eqb-true _ _ (both_true (eqb (length sw) settings-words) (eqb (length pw) record-words) l).0; is = rw q at c }
+        let (l, r) = both_true (eqb (length sw) settings-words && eqb (length pw) 16) (eqb (length aw) 7) q in
+        record { settings = eqb-true _ _ (both_true (eqb (length sw) settings-words) (eqb (length pw) 16) l).0; is = rw q at c }
     go false q =
         let d = rw q at c in
         absurd (not-0 (cond (in_size n p) Length Size) (cc))
@@ -132,7 +132,7 @@ module _ (n p : ℕ) (x y : List Float) (sw pw : List ℕ) (s : List Float) (aw 
 
 -- ---- a resuming call
 
-module _ (n p : ℕ) (x y : List Float) (sw pw : List ℕ) (s : List Float) (aw : List ℕ) (ls : length sw ≡ settings-words) (lp : length pw ≡ record-words) (la : length aw ≡ 7)
+module _ (n p : ℕ) (x y : List Float) (sw pw : List ℕ) (s : List Float) (aw : List ℕ) (ls : length sw ≡ settings-words) (lp : length pw ≡ 16) (la : length aw ≡ 7)
     (w : List Float) (b r : ℕ) (pw' aw' : List ℕ) (w' s' : List Float) (c : ResumeCall n p x y sw pw s w b aw r pw' aw' w' s') where
   -- the call of `resume` that it makes
   pub record Went : Type 0 where
@@ -142,7 +142,7 @@ module _ (n p : ℕ) (x y : List Float) (sw pw : List ℕ) (s : List Float) (aw 
 
   resume-due : called r pw' aw' w' s' ≡ resumed_as pw b (resume_of n p x y (settings_from sw) (paused_from pw) s w b)
   unfolding resume_words
-  resume-due = rw (eq-eqb (length sw) settings-words ls, eq-eqb (length pw) record-words lp, eq-eqb (length aw) 7 la) at c
+  resume-due = rw (eq-eqb (length sw) settings-words ls, eq-eqb (length pw) 16 lp, eq-eqb (length aw) 7 la) at c
 
   left_as : (o : Outcome) → called r pw' aw' w' s' ≡ resumed_as pw b o → (w' ≡ o.weights) × (s' ≡ o.scratch)
   unfolding resumed_as
@@ -174,7 +174,7 @@ module _ (n p : ℕ) (x y : List Float) (sw pw : List ℕ) (s : List Float) (aw 
     -- and where it is, the record's words are read as the record
     pub record Reads : Type 0 where
       pub back : paused_from pw' ≡ g.result.paused
-      pub long : length pw' ≡ record-words
+      pub long : length pw' ≡ 16
 
     pub pending-reads : said g.result.answer ≡ pending → Reads
     pending-reads h = go (eqb b 0) refl where
@@ -190,7 +190,7 @@ module _ (n p : ℕ) (x y : List Float) (sw pw : List ℕ) (s : List Float) (aw 
           record { back = rw new again; long = rw new (long-record g.result.paused) }
 
 -- BUDGET 0 OVER WORDS: a pending call leaves the record's words, the weights and the scratch as they were, whatever they are
-pub words-budget-0 : (n p : ℕ) (x y : List Float) (sw pw : List ℕ) (s : List Float) (aw : List ℕ) → length sw ≡ settings-words → length pw ≡ record-words → length aw ≡ 7
+pub words-budget-0 : (n p : ℕ) (x y : List Float) (sw pw : List ℕ) (s : List Float) (aw : List ℕ) → length sw ≡ settings-words → length pw ≡ 16 → length aw ≡ 7
     → (w : List Float) (r : ℕ) (pw' aw' : List ℕ) (w' s' : List Float) → ResumeCall n p x y sw pw s w 0 aw r pw' aw' w' s' → word aw' 0 ≡ 0
     → (pw' ≡ pw) × (w' ≡ w) × (s' ≡ s)
 words-budget-0 n p x y sw pw s aw ls lp la w r pw' aw' w' s' c q =

@@ -83,7 +83,7 @@ module _ (sh : Sizes) (normalise : Bool) (gamma : Float) (ys e w : List Float) w
 
 -- ---- a call that 9 does not refuse
 
-module _ (n p : ℕ) (x : List Float) (st : Settings) (a : Paused) (passes : possible_of st.max_iter st.paper a ≡ true) (f : Fit a.scalars) (v : Store) (b : ℕ) where
+module _ (n p : ℕ) (x : List Float) (st : Settings) (a : Paused) (passes : possible_of st.max_iter a ≡ true) (f : Fit a.scalars) (v : Store) (b : ℕ) where
   call-fit : Always (Kept FitData) (EndKept FitData) (call (parts_of n p x st) st.max_iter b (state_of a v))
   unfolding state_of Sane EndKept
   call-fit = go (spent_at st.max_iter a) refl where
@@ -91,7 +91,7 @@ module _ (n p : ℕ) (x : List Float) (st : Settings) (a : Paused) (passes : pos
     go true o = rw (spent-over st.max_iter a (parts_of n p x st) o b v) f
     go false o =
         call_kept (parts_of n p x st) st.max_iter FitData (fits-keep (sizes_of n p st) (terms_of st n) st.tol x st.max_iter) b (state_of a v)
-        (state-fit a.stage st.max_iter a.round _ a.scalars v (possible-sane st.max_iter st.paper a passes o) f)
+        (state-fit a.stage st.max_iter a.round _ a.scalars v (possible-sane st.max_iter a passes o) f)
 
 -- ---- a call that nothing refuses
 
@@ -103,11 +103,11 @@ both-fine (Bad r) b h = let z : ◌≡◌ {A = ℕ} 0 1 = cc in absurd (omega ar
 -- 1 to 4 do not, and 9 does not
 pub record Allowed (n p : ℕ) (x y : List Float) (st : Settings) (a : Paused) (s w : List Float) : Type 0 where
   pub limits : limits_of n p (length x) (length y) (length w) st (length s) ≡ Fine
-  pub passes : possible_of st.max_iter st.paper a ≡ true
+  pub passes : possible_of st.max_iter a ≡ true
 
 pub allowed : (n p : ℕ) (x y : List Float) (st : Settings) (a : Paused) (s w : List Float) → resume_check n p x y st a s w ≡ Fine → Allowed n p x y st a s w
 allowed n p x y st a s w e =
-    let (l, q) = both-fine (limits_of n p (length x) (length y) (length w) st (length s)) (possible_of st.max_iter st.paper a) e in
+    let (l, q) = both-fine (limits_of n p (length x) (length y) (length w) st (length s)) (possible_of st.max_iter a) e in
     record { limits = l; passes = q }
 
 module _ (n p : ℕ) (x y : List Float) (st : Settings) where

@@ -24,7 +24,7 @@ use Rattle.promises.specs.Chain.{Starts, Chain, last as last_c, more as more_c, 
 use Rattle.promises.specs.Outcome.{outcome_of}
 use Rattle.promises.proofs.Pauses.{pause-theorem, pauses-end-as-the-rust}
 use Rattle.c_values.specs.Settings.{settings-words, settings_from}
-use Rattle.c_words.specs.Words.{record-words, paused_from}
+use Rattle.c_words.specs.Words.{paused_from}
 use Rattle.c_answers.specs.Called.{Called, called}
 use Rattle.c_api.specs.Calls.{StartCall, resumed_as}
 use Rattle.c_promises.specs.WordChain.{WordChain, last, more, end_words}
@@ -39,9 +39,9 @@ module _ (n p : ℕ) (x y : List Float) (sw : List ℕ) (ls : length sw ≡ sett
     pub given : ℕ
     pub says : z ≡ resumed_as before given (outcome result w' s')
 
-  -- CALLS OVER WORDS, from any words of a record and with any budgets, are calls of `resume` from the record that the words say
+  -- CALLS OVER WORDS, from any 16 words and with any budgets, are calls of `resume` from the record that the words say
   pub words-are-calls : (bs pw : List ℕ) (s : List Float) (r : ℕ) (pw' aw' : List ℕ) (w' s' : List Float) → WordChain n p x y sw bs pw s r pw' aw' w' s'
-      → length pw ≡ record-words → AsCalls bs (paused_from pw) s (called r pw' aw' w' s') w' s'
+      → length pw ≡ 16 → AsCalls bs (paused_from pw) s (called r pw' aw' w' s') w' s'
   words-are-calls _ pw s r pw' aw' w' s' (last {b} {bs} w l aw la c stop) lp =
       let g = went n p x y sw pw s aw ls lp la w b r pw' aw' w' s' c in
       record {
@@ -57,7 +57,7 @@ module _ (n p : ℕ) (x y : List Float) (sw : List ℕ) (ls : length sw ≡ sett
       g : Went n p x y sw pw s aw ls lp la w b r₁ pw₁ aw₁ w₁ s₁ c
       g = went n p x y sw pw s aw ls lp la w b r₁ pw₁ aw₁ w₁ s₁ c
 
-      go : (length pw₁ ≡ record-words → AsCalls bs (paused_from pw₁) s₁ (called r pw' aw' w' s') w' s')
+      go : (length pw₁ ≡ 16 → AsCalls bs (paused_from pw₁) s₁ (called r pw' aw' w' s') w' s')
           → AsCalls (b ∷ bs) (paused_from pw) s (called r pw' aw' w' s') w' s'
       go rec =
           let q = word-pending n p x y sw pw s aw ls lp la w b r₁ pw₁ aw₁ w₁ s₁ c g pend in

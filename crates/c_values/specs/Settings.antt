@@ -4,9 +4,9 @@ use Rattle.numbers.specs.Ops.{f64}
 use Rattle.settings.specs.declared.Settings.{Settings}
 use Rattle.c_values.specs.Values.{word, truth, truth_word, bits}
 
--- alpha, l1_ratio, tol, M, R, C, normalise, lazy, paper
+-- alpha, l1_ratio, tol, M, R, C, normalise, lazy
 abbrev pub settings-words : ℕ
-settings-words = 9
+settings-words = 8
 
 -- as the words say them; whether they are allowed is asked later
 unfoldable pub settings_from : List ℕ → Settings
@@ -19,10 +19,9 @@ settings_from w = record {
   panel_cols = word w 5;
   normalise = truth (word w 6);
   lazy = truth (word w 7);
-  paper = truth (word w 8);
 }
 
 unfoldable pub settings_words : Settings → List ℕ
 settings_words st =
     bits st.alpha ∷ bits st.l1_ratio ∷ bits st.tol ∷ st.max_iter ∷ st.panel_rows ∷ st.panel_cols
-    ∷ truth_word st.normalise ∷ truth_word st.lazy ∷ truth_word st.paper ∷ []
+    ∷ truth_word st.normalise ∷ truth_word st.lazy ∷ []

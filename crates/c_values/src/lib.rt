@@ -37,7 +37,7 @@ pub fn write_floats(f: Floats, out: &mut [u64], i: usize)
 
 // ---- the settings, in the words that specs/Settings.antt names
 
-pub const SETTINGS_WORDS: usize = 9;
+pub const SETTINGS_WORDS: usize = 8;
 
 // The settings as the words say them. Nothing is tested here: `settings::allowed` does that.
 pub fn settings_from(w: &[u64]) -> Settings
@@ -46,7 +46,6 @@ pub fn settings_from(w: &[u64]) -> Settings
 {
     let normalise = w[6] != 0;
     let lazy = w[7] != 0;
-    let paper = w[8] != 0;
     let f = floats_at(w, 0);
     Settings {
         alpha: f.0,
@@ -57,7 +56,6 @@ pub fn settings_from(w: &[u64]) -> Settings
         panel_cols: w[5] as usize,
         normalise,
         lazy,
-        paper,
     }
 }
 
@@ -72,5 +70,4 @@ pub fn write_settings(st: Settings, out: &mut [u64])
     out[5] = st.panel_cols as u64;
     out[6] = truth_word(st.normalise);
     out[7] = truth_word(st.lazy);
-    out[8] = truth_word(st.paper);
 }

@@ -38,7 +38,6 @@ record-round-trip a h =
       of_bits-to_bits binary64 v.phi h.phi,
       of_bits-to_bits binary64 v.gdx h.gdx,
       truth-again v.missed,
-      truth-again v.paper,
     )
 
 -- whatever the words, what is read of them has it

@@ -9,10 +9,6 @@ use Rattle.records.specs.declared.Stage.TheVariants.{Opening, Solving, Searching
 use Rattle.c_values.specs.Values.{word, truth, truth_word, bits}
 use Rattle.c_words.specs.declared.Told.{Told}
 
--- stage, index, round, the three counts, nine floats, missed, paper
-abbrev pub record-words : ℕ
-record-words = 17
-
 -- the stage and its index; an unknown stage is one that has ended, which is 9
 abbrev pub stage_from : ℕ → ℕ → Stage
 stage_from zero i = Opening
@@ -45,10 +41,9 @@ scalars_from w = record {
   phi = f64 (word w 13);
   gdx = f64 (word w 14);
   missed = truth (word w 15);
-  paper = truth (word w 16);
 }
 
--- what the words say; whether a call may continue it is asked later
+-- stage, index, round, the three counts, the scalars, missed: 16 words
 unfoldable pub paused_from : List ℕ → Paused
 paused_from w = record {
   stage = stage_from (word w 0) (word w 1);
@@ -60,7 +55,7 @@ paused_from w = record {
 abbrev pub scalars_words : Scalars → List ℕ
 scalars_words v =
     bits v.t ∷ bits v.s ∷ bits v.dual ∷ bits v.pcgtol ∷ bits v.bnrm ∷ bits v.bkden ∷ bits v.error ∷ bits v.phi ∷ bits v.gdx
-    ∷ truth_word v.missed ∷ truth_word v.paper ∷ []
+    ∷ truth_word v.missed ∷ []
 
 unfoldable pub paused_words : Paused → List ℕ
 paused_words a =

@@ -1,13 +1,11 @@
 // Record and answer as the words of the calls for C and Rust (specs/Words.antt says which), and back.
 ghost use Rattle.std.specs.Prelude.{◌≡◌, length};
 ghost use Rattle.std.proofs.lemmas.List.Edits.{sets};
-ghost use Rattle.c_words.specs.Words.{record-words, stage_from, scalars_from, paused_from, stage_word, index_word, scalars_words, paused_words, told_words};
+ghost use Rattle.c_words.specs.Words.{stage_from, scalars_from, paused_from, stage_word, index_word, scalars_words, paused_words, told_words};
 
 use c_values::{Floats, floats_at, truth_word, write_floats};
 use lasso_optimizer::Scalars;
 use records::{Counts, Paused, Rounds, SolverRounds, Stage, Trials};
-
-pub const RECORD_WORDS: usize = 17;
 
 // The stage of a word and an index. An unknown word is a fit that has ended, so that the record is refused with 9.
 fn stage_from(k: u64, i: u64) -> Stage
@@ -26,11 +24,10 @@ fn stage_from(k: u64, i: u64) -> Stage
 }
 
 fn scalars_from(w: &[u64]) -> Scalars
-    requires { length w.now ≡ record-words }
+    requires { length w.now ≡ 16 }
     ensures { result ≡ scalars_from w.now }
 {
     let missed = w[15] != 0;
-    let paper = w[16] != 0;
     let a = floats_at(w, 6);
     let b = floats_at(w, 9);
     let c = floats_at(w, 12);
@@ -45,13 +42,12 @@ fn scalars_from(w: &[u64]) -> Scalars
         phi: c.1,
         gdx: c.2,
         missed,
-        paper,
     }
 }
 
-// A record as its words say it. Nothing is tested here: `records::possible` does that.
+// A record as its 16 words say it. Nothing is tested here: `records::possible` does that.
 pub fn paused_from(w: &[u64]) -> Paused
-    requires { length w.now ≡ record-words }
+    requires { length w.now ≡ 16 }
     ensures { result ≡ paused_from w.now }
 {
     let stage = stage_from(w[0], w[1]);
@@ -93,19 +89,18 @@ fn index_word(g: Stage) -> u64
 }
 
 fn write_scalars(a: Scalars, out: &mut [u64])
-    requires { length out.old ≡ record-words }
+    requires { length out.old ≡ 16 }
     ensures { out.new ≡ sets out.old 6 (scalars_words a) }
 {
     write_floats(Floats(a.t, a.s, a.dual), out, 6);
     write_floats(Floats(a.pcgtol, a.bnrm, a.bkden), out, 9);
     write_floats(Floats(a.error, a.phi, a.gdx), out, 12);
     out[15] = truth_word(a.missed);
-    out[16] = truth_word(a.paper);
 }
 
-// The words that `paused_from` reads back.
+// The 16 words that `paused_from` reads back.
 pub fn write_paused(a: Paused, out: &mut [u64])
-    requires { length out.old ≡ record-words }
+    requires { length out.old ≡ 16 }
     ensures { out.new ≡ paused_words a }
 {
     let stage = a.stage;

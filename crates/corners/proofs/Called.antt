@@ -7,7 +7,6 @@ use lib.Ieee.{Float}
 use Rattle.numbers.specs.Ops.{f64}
 use Rattle.refusal.specs.declared.Checked.TheVariants.{Fine}
 use Rattle.settings.specs.declared.Settings.{Settings}
-use Rattle.settings.specs.Settings.{terms_of}
 use Rattle.layout.specs.Slots.{rest}
 use Rattle.layout.specs.Need.{sizes_of, need_of}
 use Rattle.pause.specs.Parts.{none}
@@ -26,12 +25,11 @@ use Rattle.promises.proofs.Pauses.{pauses-end-as-the-rust}
 use Rattle.corners.specs.Corners.{Ends, Fits, end_of}
 
 module _ (n p : ℕ) (x y : List Float) (st : Settings) (a : Ends) (h : Fits n p x y st a) (s : List Float) (room : need_of n p st ≤ length s) where
-  -- a start in a large enough scratch is accepted, and its terms have the row's lambda
-  pub starts-ready : (o : Started) (s₁ : List Float) → Starts n p x y st s o s₁
-      → (o ≡ Ready (paused_at Opening 0 none (fresh p (terms_of st n)))) × ((terms_of st n).lambda ≡ f64 a.lambda)
+  -- a start in a large enough scratch is accepted
+  pub starts-ready : (o : Started) (s₁ : List Float) → Starts n p x y st s o s₁ → o ≡ Ready (paused_at Opening 0 none (fresh p (f64 a.lambda)))
   starts-ready o s₁ c =
       let fine : start_check n p x y st s ≡ Fine = rw (h.limits (length s) room, h.values) refl in
-      ((start-accepted n p x y st s o s₁ c fine).0, h.lambda)
+      rw h.lambda at (start-accepted n p x y st s o s₁ c fine).0
 
   -- and calls after it whose budgets suffice leave the row's end
   pub calls-end : (k : Paused) (s₁ : List Float) → Starts n p x y st s (Ready k) s₁ → (b : ℕ) (bs : List ℕ) → Enough st.max_iter (b ∷ bs)

@@ -20,13 +20,13 @@ use Rattle.matrices.specs.Grid.{grid}
 use Rattle.matrices.specs.Products.{rows_of, columns_of}
 use Rattle.refusal.specs.declared.Checked.TheVariants.{Fine}
 use Rattle.settings.specs.declared.Settings.{Settings}
-use Rattle.settings.specs.Settings.{gamma_of, l1_of, l2_of, terms_of, allowed_of, range_of, centring_of, panels_of}
+use Rattle.settings.specs.Settings.{gamma_of, l1_of, l2_of, terms_of, allowed_of, range_of, panels_of}
 use Rattle.settings.proofs.Corners.{p7}
 use Rattle.layout.specs.Need.{need_of, sizes_of}
 use Rattle.design.specs.Eager.{design_of}
 use Rattle.smartcore.specs.BgSolver.{solve_mut}
 use Rattle.smartcore.specs.LassoOptimizer.{round, rounds, optimize}
-use Rattle.smartcore.specs.ElasticNet.{centre_y, augment_y, optimize_eager, optimize_fit, rescaled, fit}
+use Rattle.smartcore.specs.ElasticNet.{augment_y, optimize_eager, optimize_fit, rescaled, fit}
 use Rattle.checks.specs.Checks.{limits_of, start_values}
 use Rattle.promises.specs.Outcome.{outcome_of}
 use Rattle.big_endian.specs.Bytes.{big_endian}
@@ -46,7 +46,7 @@ module _ (M R C : ℕ) where
   lambda-two = refl
 
   accepted : leb M 1000 ≡ true → (room : ℕ) → need_of 2 1 asked ≤ room → limits_of 2 1 2 2 1 asked room ≡ Fine
-  unfolding limits_of allowed_of range_of centring_of panels_of of_bits le
+  unfolding limits_of allowed_of range_of panels_of of_bits le
   accepted q room h = rw (q, le-leb _ _ h) refl
 
 -- ---- P8
@@ -70,7 +70,7 @@ p8-fits R C = record {
 
 p9-fits : FitHolds p9-input p9-end
 unfolding
-    fit optimize_fit optimize_eager optimize rounds round solve_mut centre_y augment_y outcome_of start_values first_infinite
+    fit optimize_fit optimize_eager optimize rounds round solve_mut augment_y outcome_of start_values first_infinite
     rows_of columns_of dot_of norm1_of norm2_of norm_inf_of map_of zip_of fold_to tab fill_of design_of grid part mean_of sum_of
     sizes_of terms_of l1_of l2_of gamma_of root_of root_bits last reaches count maximum_of minimum_of magnitude_of of_bits to_bits sub mul div of_int le
 p9-fits R C = record {

@@ -59,7 +59,6 @@ settings_of i R C = record {
   panel_cols = C;
   normalise = false;
   lazy = false;
-  paper = false;
 }
 
 abbrev pub floats : List ℕ → List Float

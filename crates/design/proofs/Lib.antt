@@ -1,4 +1,3 @@
 pub mod Gram
 pub mod Lengths
-pub mod Centred
 mod Grids

@@ -8,7 +8,6 @@ use Rattle.arrays.specs.Sums.{plus0, mean_of}
 use Rattle.arrays.specs.Vectors.{map_of, fill_of}
 use Rattle.arrays.specs.declared.scan.Found.{Found}
 use Rattle.arrays.specs.declared.scan.Found.TheVariants.{Clean, At}
-use Rattle.settings.specs.declared.Terms.{Terms}
 use Rattle.column_moments.specs.Stats.{column_mean_of, deviation_of}
 use Rattle.layout.specs.declared.Sizes.{Sizes}
 use Rattle.layout.specs.declared.Places.{Places}
@@ -43,17 +42,14 @@ statistics_store sh normalise m v =
     ⟨ CENTRE ≔ (λ u. centres_of normalise m sh.n sh.p) ⟩
     ⟨ SCALE ≔ (λ u. scales_of normalise m sh.n sh.p) ⟩
 
--- the first k of xs, less their mean
-abbrev pub less_mean : ℕ → List Float → List Float
-less_mean k xs = map_of (λ (v : Float). v ⊖ mean_of k xs) k xs
+-- the targets with p zeros, less the mean over all n + p of them: the zeros move too
+unfoldable pub centred_of : ℕ → ℕ → List Float → List Float
+centred_of n p ys =
+    let y2 = part ys 0 n ++ fill_of plus0 p in
+    map_of (λ (v : Float). v ⊖ mean_of (n + p) y2) (n + p) y2
 
--- as Zou and Hastie's paper centres, the n targets less their mean, and then p zeros; as the Rust does, the targets with p zeros, less the mean over all n + p
--- of them: the zeros move too
-unfoldable pub centred_of : Bool → ℕ → ℕ → List Float → List Float
-centred_of paper n p ys = cond paper (less_mean n ys ++ fill_of plus0 p) (less_mean (n + p) (part ys 0 n ++ fill_of plus0 p))
-
-unfoldable pub targets_store : Sizes → Terms → List Float → Store → Store
-targets_store sh tm ys v = v ⟨ Y ≔ (λ u. centred_of tm.paper sh.n sh.p ys) ⟩
+unfoldable pub targets_store : Sizes → List Float → Store → Store
+targets_store sh ys v = v ⟨ Y ≔ (λ u. centred_of sh.n sh.p ys) ⟩
 
 -- a matrix of n by p, and scratch
 pub record Given (sh : Sizes) (l : Places) (m s : List Float) : Type 0 where

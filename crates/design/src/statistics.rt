@@ -1,5 +1,5 @@
 // The statistics of the columns, the test for a constant one, and the centred targets.
-ghost use Rattle.std.specs.Prelude.{◌≡◌, cond, ◌*◌, ◌≤◌, length};
+ghost use Rattle.std.specs.Prelude.{◌≡◌, ◌*◌, ◌≤◌, length};
 ghost use Rattle.layout.specs.Slots.{Makes};
 ghost use Rattle.design.specs.Statistics.{constant_of, statistics_store, targets_store, Given, Targets};
 
@@ -9,7 +9,6 @@ use arrays::vectors::{copy_from, fill, sub_scalar};
 use column_moments::moments;
 use layout::{Places, Sizes};
 use numbers::bits::magnitude;
-use settings::Terms;
 
 // The lowest constant column, that is, one whose deviation is below epsilon; a NaN is not. It writes nothing that is lent, so that refusal 6 is found before
 // the first word is written.
@@ -46,23 +45,16 @@ pub fn statistics(m: &[f64], sh: Sizes, normalise: bool, s: &mut [f64], l: Place
     fill(s, sc, p, 1.0);
 }
 
-// The targets with p zeros, centred: less the mean over all of them, or, as the paper has it, over the scores alone, which leaves the zeros +0.
-pub fn targets(y: &[f64], sh: Sizes, tm: Terms, s: &mut [f64], l: Places)
+// The targets with p zeros, less the mean over all of them.
+pub fn targets(y: &[f64], sh: Sizes, s: &mut [f64], l: Places)
     requires { Targets sh l y.now s.old }
-    ensures { Makes sh (targets_store sh tm y.now) s.old s.new }
+    ensures { Makes sh (targets_store sh y.now) s.old s.new }
 {
     let out = l.y;
     let n = sh.n;
+    let k = sh.k;
     copy_from(s, out, y, 0, n);
     fill(s, out + n, sh.p, 0.0);
-    let k = centred_count(sh, tm);
     let mu = mean(s, out, k);
     sub_scalar(s, out, out, mu, k);
-}
-
-// How many of the targets have the mean taken off that is over so many: the scores alone, or the zeros too.
-fn centred_count(sh: Sizes, tm: Terms) -> usize
-    ensures { result ≡ cond tm.paper sh.n sh.k }
-{
-    if tm.paper { sh.n } else { sh.k }
 }

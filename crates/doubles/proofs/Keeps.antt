@@ -79,9 +79,9 @@ tolerance-double later gap normg =
     cond-fits binary64 later _ _ (mul-fits binary64 _ _) (minimum-double _ _ (of_bits-fits binary64 _) (div-fits binary64 _ _))
 
 -- A FRESH FIT'S scalars
-pub fresh-fit : (p : ℕ) (tm : Terms) → Fit (fresh p tm)
+pub fresh-fit : (p : ℕ) (lambda : Float) → Fit (fresh p lambda)
 unfolding fresh start_t
-fresh-fit p tm = record {
+fresh-fit p lambda = record {
   t = minimum-double _ _ (maximum-double _ _ (of_bits-fits binary64 _) (div-fits binary64 _ _)) (div-fits binary64 _ _);
   s = inf-fits binary64 _;
   dual = of_bits-fits binary64 _;

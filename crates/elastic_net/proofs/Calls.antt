@@ -7,8 +7,7 @@ use native.Mathlib.Omega.{arith}
 use lib.ListN.{length}
 use lib.Ieee.{Float}
 use Rattle.settings.specs.declared.Settings.{Settings}
-use Rattle.settings.specs.declared.Terms.{Terms}
-use Rattle.settings.specs.Settings.{Panels, terms_of}
+use Rattle.settings.specs.Settings.{Panels}
 use Rattle.settings.proofs.Laws.{allowed-says}
 use Rattle.layout.specs.declared.Sizes.{Sizes}
 use Rattle.layout.specs.declared.Places.{Places}
@@ -17,8 +16,6 @@ use Rattle.layout.specs.Need.{sizes_of, Small}
 use Rattle.refusal.proofs.Scanning.{opposed}
 use Rattle.design_products.specs.Mode.{Held}
 use Rattle.design_products.proofs.Lengths.{held_on}
-use Rattle.records.specs.declared.Paused.{Paused}
-use Rattle.records.specs.Records.{possible_of}
 use Rattle.checks.specs.Checks.{Accepted}
 use Rattle.checks.proofs.Laws.{SizesAre, sizes-known, accepted-small, accepted-room}
 use Rattle.beginning.specs.Start.{Begins}
@@ -35,12 +32,6 @@ panelled n p st g = go st.lazy refl where
   go : (b : Bool) → st.lazy ≡ b → Panelled (sizes_of n p st)
   go true q = rw q (record { rows = λ z. (g q).rows-least; columns = λ z. (g q).columns-least })
   go false q = rw q (record { rows = λ z. absurd (opposed false refl z); columns = λ z. absurd (opposed false refl z) })
-
--- the terms have the settings' choice
-pub choice-in : (n : ℕ) (st : Settings) (tm : Terms) (a : Paused) → tm ≡ terms_of st n → possible_of st.max_iter st.paper a ≡ true
-    → possible_of st.max_iter tm.paper a ≡ true
-unfolding terms_of
-choice-in n st tm a e h = rw e h
 
 module _ {n p xl yl wl sl : ℕ} {st : Settings} (a : Accepted n p xl yl wl st sl) where
   pub few-rounds : st.max_iter ≤ 1000

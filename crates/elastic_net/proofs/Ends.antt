@@ -54,14 +54,14 @@ use Rattle.elastic_net.specs.ElasticNet.{Outcome, outcome, start_outcome, end_ou
 
 -- ---- the steps of a call
 
-module _ (F : Parts Failure Data) (M : ℕ) (paper : Bool) (a : Paused) (b : ℕ) (sh : Sizes) (s : List Float) where
+module _ (F : Parts Failure Data) (M : ℕ) (a : Paused) (b : ℕ) (sh : Sizes) (s : List Float) where
   pub stops : {l : Places} → spent_at M a ≡ true → Room sh l s → Did sh (rest sh s) (call F M b (state_of a (vars sh s))) (Over (Done Limit) a.counts) s
   unfolding answer left_data how_of words
   stops o h = rw (spent-over M a F o b (vars sh s)) (record { is = refl; left = start sh s h.room })
 
-  pub goes : {o : Stepped} {s' : List Float} → possible_of M paper a ≡ true → spent_at M a ≡ false → Did sh (rest sh s) (run (step F M) b (state_of a (vars sh s))) o s'
+  pub goes : {o : Stepped} {s' : List Float} → possible_of M a ≡ true → spent_at M a ≡ false → Did sh (rest sh s) (run (step F M) b (state_of a (vars sh s))) o s'
       → Did sh (rest sh s) (call F M b (state_of a (vars sh s))) o s'
-  goes passes o d = rw (unspent-run M paper a passes F o b (vars sh s)) d
+  goes passes o d = rw (unspent-run M a passes F o b (vars sh s)) d
 
 -- ---- an end
 
@@ -132,11 +132,11 @@ module _ (n p : ℕ) (x y : List Float) (st : Settings) (a : Paused) (s w : List
   unfolding resume_of
   refused e = rw (sym q ∙ e)
 
-  pub refused-record : k ≡ Fine → possible_of st.max_iter st.paper a ≡ false → outcome (record { answer = RefusedA Record; paused = a }) w s ≡ resume_of n p x y st a s w b
+  pub refused-record : k ≡ Fine → possible_of st.max_iter a ≡ false → outcome (record { answer = RefusedA Record; paused = a }) w s ≡ resume_of n p x y st a s w b
   unfolding resume_of
   refused-record e h = rw (sym q ∙ e, h)
 
-  pub let_through : (u : Resumed) {w' s' : List Float} → k ≡ Fine → possible_of st.max_iter st.paper a ≡ true
+  pub let_through : (u : Resumed) {w' s' : List Float} → k ≡ Fine → possible_of st.max_iter a ≡ true
       → outcome u w' s' ≡ carried n p x y st a s w b
       → outcome u w' s' ≡ resume_of n p x y st a s w b
   unfolding resume_of
@@ -156,7 +156,7 @@ module _ (n p : ℕ) (x y : List Float) (st : Settings) (s : List Float) {k : Ch
     values-refused g = rw (sym q ∙ e, sym t ∙ g)
 
     pub starts : {sh : Sizes} {tm : Terms} {m : List Float} {f : Scalars} {u : Paused} → j ≡ Fine → sh ≡ sizes_of n p st → tm ≡ terms_of st n
-        → Has sh (rest sh s) (start_store sh st.normalise tm x y) m → f ≡ fresh p tm → u ≡ paused_at Opening 0 none f
+        → Has sh (rest sh s) (start_store sh st.normalise tm x y) m → f ≡ fresh p tm.lambda → u ≡ paused_at Opening 0 none f
         → start_outcome (ReadyS u) m ≡ start_of n p x y st s
     unfolding start_of
     starts {sh} g qs qt h qf qu = rw (sym q ∙ e, sym t ∙ g, ← qs, ← qt, qu, qf, flat-of sh h)

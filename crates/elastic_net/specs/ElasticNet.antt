@@ -105,7 +105,7 @@ resume_of n p x y st a s w b =
     let sh = sizes_of n p st in
     let tm = terms_of st n in
     by_check (limits_of n p (length x) (length y) (length w) st (length s)) a w s
-    (by_check (cond (possible_of st.max_iter st.paper a) Fine (Bad Record)) a w s
+    (by_check (cond (possible_of st.max_iter a) Fine (Bad Record)) a w s
     (shown sh st.normalise tm.gamma y (rest sh s) w (call (parts sh tm st.tol x) st.max_iter b (state_of a (vars sh s)))))
 
 -- ---- a start
@@ -138,6 +138,6 @@ start_of n p x y st s =
     by_start_check (limits_of n p (length x) (length y) p st (length s)) s
     (by_start_check (start_values x y n p st.normalise) s
     (record {
-      answer = ready (paused_at Opening 0 none (fresh p tm));
+      answer = ready (paused_at Opening 0 none (fresh p tm.lambda));
       scratch = flatly sh (start_store sh st.normalise tm x y) (rest sh s);
     }))

@@ -58,7 +58,7 @@ fn go(
 ) -> Stepped
     requires held { Held sh l m.now s.old }
     requires limit_bound { limit ≤ 1000 }
-    requires rec_value { possible_of limit tm.paper rec ≡ true }
+    requires rec_value { possible_of limit rec ≡ true }
     ensures { Did sh (rest sh s.old) (call (parts sh tm tol m.now) limit budget
         (state_of rec (vars sh s.old))) result s.new }
 {
@@ -129,7 +129,7 @@ fn accepted(
     budget: u64,
 ) -> Resumed
     requires accepted { Accepted n p (length x.now) (length y.now) (length w.old) st (length s.old) }
-    requires rec_value { possible_of st.max_iter st.paper rec ≡ true }
+    requires rec_value { possible_of st.max_iter rec ≡ true }
     ensures { outcome result w.new s.new
         ≡ shown (sizes_of n p st) st.normalise (terms_of st n).gamma y.now (rest (sizes_of n p st) s.old) w.old
         (call (parts (sizes_of n p st) (terms_of st n) st.tol x.now) st.max_iter budget
@@ -174,7 +174,7 @@ pub fn resume(
             paused: rec,
         };
     }
-    if !possible(st.max_iter, st.paper, rec) {
+    if !possible(st.max_iter, rec) {
         return Resumed {
             answer: Answer::Refused(Refusal::Record),
             paused: rec,
@@ -200,6 +200,6 @@ pub fn start(n: usize, p: usize, x: &[f64], y: &[f64], st: Settings, s: &mut [f6
     let l = place(sh);
     let tm = terms_of(st, n);
     begin(x, y, sh, st.normalise, tm, s, l, need(sh));
-    let a = fresh_scalars(p, tm);
+    let a = fresh_scalars(p, tm.lambda);
     Started::Ready(first(a))
 }

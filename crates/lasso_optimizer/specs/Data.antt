@@ -25,7 +25,6 @@ opened a t dual pcgtol bnrm = record {
   phi = a.phi;
   gdx = a.gdx;
   missed = a.missed;
-  paper = a.paper;
 }
 
 abbrev pub with_round : Scalars → Float → Float → Scalars
@@ -40,7 +39,6 @@ with_round a error bkden = record {
   phi = a.phi;
   gdx = a.gdx;
   missed = a.missed;
-  paper = a.paper;
 }
 
 abbrev pub aimed : Scalars → Float → Float → Float → Bool → Scalars
@@ -55,7 +53,6 @@ aimed a s phi gdx missed = record {
   phi = phi;
   gdx = gdx;
   missed = missed;
-  paper = a.paper;
 }
 
 abbrev pub stepped : Scalars → Float → Scalars

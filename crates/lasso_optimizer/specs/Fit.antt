@@ -35,9 +35,9 @@ parts sh tm tol m = record {
 }
 
 -- the scalars of a fresh fit
-unfoldable pub fresh : ℕ → Terms → Scalars
-fresh p tm = record {
-  t = start_t p tm.lambda;
+unfoldable pub fresh : ℕ → Float → Scalars
+fresh p lambda = record {
+  t = start_t p lambda;
   s = inf false;
   dual = plus0;
   pcgtol = plus0;
@@ -47,12 +47,11 @@ fresh p tm = record {
   phi = plus0;
   gdx = plus0;
   missed = false;
-  paper = tm.paper;
 }
 
 -- the unbroken fit of at most M rounds, from the vectors v
 unfoldable pub optimized : Sizes → Terms → Float → List Float → ℕ → Store → End Failure Data
-optimized sh tm tol m M v = unbroken (parts sh tm tol m) M (held (fresh sh.p tm) v)
+optimized sh tm tol m M v = unbroken (parts sh tm tol m) M (held (fresh sh.p tm.lambda) v)
 
 -- ---- the parts' answers as the code gives them, and the memory left beside them
 

@@ -19,8 +19,6 @@ pub struct Scalars {
     pub gdx: f64,
     // a solve has missed its tolerance
     pub missed: bool,
-    // the choice of the settings, which each step hands on and each call compares
-    pub paper: bool,
 }
 
 // An opening: the solver is ready; the fit has converged; it fails.

@@ -1,5 +1,4 @@
 mod Untouched
 pub mod Keeps
 pub mod Sized
-pub mod Choice
 pub mod Theorems

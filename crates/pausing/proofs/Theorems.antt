@@ -29,18 +29,18 @@ use Rattle.pausing.proofs.Keeps.{parts-keep}
 
 module _ (sh : Sizes) (tm : Terms) (tol : Float) (m : List Float) (M : ℕ) (v : Store) where
   abbrev first : Data
-  first = held (fresh sh.p tm) v
+  first = held (fresh sh.p tm.lambda) v
 
   -- calls whose budgets add up to 5,100·M at least end as the unbroken fit
   pub pauses-change-nothing : (b : ℕ) (bs : List ℕ) → M * 5100 ≤ total (b ∷ bs)
-      → calls (call (parts sh tm tol m) M) (b ∷ bs) (start (held (fresh sh.p tm) v)) ≡ over (optimized sh tm tol m M v)
+      → calls (call (parts sh tm tol m) M) (b ∷ bs) (start (held (fresh sh.p tm.lambda) v)) ≡ over (optimized sh tm tol m M v)
   unfolding parts optimized
   pauses-change-nothing b bs enough = paused-is-unbroken (parts sh tm tol m) M (lit≤ tt) (lit≤ tt) b bs first enough
 
   -- at each pause as many steps are counted as were given, and each count is within its bound
   pub counts-within : (b : ℕ) (bs : List ℕ)
       → Always (Counted (parts sh tm tol m) M (total (b ∷ bs))) (EndWithin (parts sh tm tol m) M)
-      (calls (call (parts sh tm tol m) M) (b ∷ bs) (start (held (fresh sh.p tm) v)))
+      (calls (call (parts sh tm tol m) M) (b ∷ bs) (start (held (fresh sh.p tm.lambda) v)))
   unfolding parts
   counts-within b bs = counts-at-pauses (parts sh tm tol m) M (lit≤ tt) (lit≤ tt) b bs first
 
@@ -55,7 +55,7 @@ module _ (sh : Sizes) (tm : Terms) (tol : Float) (m : List Float) (M : ℕ) (v :
     -- each weight is finite and strictly within its finite bound, and t is finite: at every pause, and at an end before the weights are rescaled
     pub weights-within : (b : ℕ) (bs : List ℕ)
         → Always (Kept (KeptData sh.p)) (EndKept (KeptData sh.p))
-        (calls (call (parts sh tm tol m) M) (b ∷ bs) (start (held (fresh sh.p tm) v)))
+        (calls (call (parts sh tm tol m) M) (b ∷ bs) (start (held (fresh sh.p tm.lambda) v)))
     weights-within b bs = kept-at-pauses (parts sh tm tol m) M (KeptData sh.p) (parts-keep sh tm m tol M rounds positive) b bs first first-kept
 
     pub fit-within : EndKept (KeptData sh.p) (optimized sh tm tol m M v)

@@ -1,10 +1,10 @@
 -- What every part of a fit keeps of the optimiser's data, n rounds being opened. Definitions only.
-use Rattle.std.specs.Prelude.{◌≡◌, Bool, false, ℕ, ◌+◌, length}
+use Rattle.std.specs.Prelude.{◌≡◌, false, ℕ, ◌+◌, length}
 use Rattle.layout.specs.declared.Sizes.{Sizes}
 use Rattle.layout.specs.Slots.{Slot, size}
 use Rattle.layout.specs.Slots.{Slot.W, Slot.U}
 use Rattle.bound.specs.Guarded.{Guarded}
-use Rattle.lasso_optimizer.specs.Data.{Data, held, scalars_of}
+use Rattle.lasso_optimizer.specs.Data.{Data, held}
 
 -- with p columns: each weight finite and strictly within its finite bound, t from 1 on and finite
 abbrev pub KeptData : ℕ → ℕ → Data → Type 0
@@ -18,7 +18,3 @@ pub record Proper (sh : Sizes) : Type 0 where
 -- every vector has its size
 abbrev pub SizedData : Sizes → ℕ → Data → Type 0
 SizedData sh n (held a v) = (s : Slot) → length (v s) ≡ size sh s
-
--- the way to centre that was chosen is c
-abbrev pub ChoiceData : Bool → ℕ → Data → Type 0
-ChoiceData c n d = (scalars_of d).paper ≡ c

@@ -26,22 +26,21 @@ use Rattle.pause.specs.Invariant.{Keeps, Kept, EndKept}
 use Rattle.pause.proofs.Budgets.{call-pends}
 use Rattle.pause.proofs.Unbroken.{Leads, start-leads, call-leads, pause-early}
 use Rattle.pause.proofs.Kept.{start-kept, call_kept}
-use Rattle.lasso_optimizer.specs.Data.{Data, held, scalars_of, store_of}
+use Rattle.lasso_optimizer.specs.Data.{Data, held, store_of}
 use Rattle.lasso_optimizer.specs.Fit.{parts, fresh, optimized}
-use Rattle.pausing.specs.Kept.{KeptData, SizedData, ChoiceData, Proper}
+use Rattle.pausing.specs.Kept.{KeptData, SizedData, Proper}
 use Rattle.pausing.proofs.Keeps.{parts-keep}
 use Rattle.pausing.proofs.Sized.{sizes-keep}
-use Rattle.pausing.proofs.Choice.{choice-kept}
 use Rattle.pausing.proofs.Theorems.{first-kept}
 use Rattle.records.specs.declared.Paused.{Paused}
 use Rattle.records.specs.declared.Stage.TheVariants.{Opening}
 use Rattle.records.specs.Record.{paused_of, paused_at}
 use Rattle.stages.specs.Stage.{how_of}
-use Rattle.records.proofs.Back.{state-back, choice-is}
+use Rattle.records.proofs.Back.{state-back}
 use Rattle.checks.specs.Checks.{limits_of}
 use Rattle.checks.proofs.Laws.{accepted, accepted-room, sizes-known}
 use Rattle.records.specs.Records.{possible_of, possible_at, counted_of}
-use Rattle.records.proofs.Laws.{same-itself, possible-choice, own-possible}
+use Rattle.records.proofs.Laws.{own-possible}
 use Rattle.beginning.specs.Start.{start_store}
 use Rattle.beginning.proofs.Sized.{start-sized}
 use Rattle.elastic_net.specs.declared.Resumed.{Resumed}
@@ -59,7 +58,7 @@ parts_of n p x st = parts (sizes_of n p st) (terms_of st n) st.tol x
 
 abbrev pub first_data : ℕ → ℕ → List Float → List Float → Settings → Data
 first_data n p x y st =
-    held (fresh (sizes_of n p st).p (terms_of st n)) (start_store (sizes_of n p st) st.normalise (terms_of st n) x y)
+    held (fresh (sizes_of n p st).p (terms_of st n).lambda) (start_store (sizes_of n p st) st.normalise (terms_of st n) x y)
 
 pub some-solves : (n p : ℕ) (x : List Float) (st : Settings) → 1 ≤ (parts_of n p x st).solves
 unfolding parts
@@ -86,13 +85,13 @@ first_fine Fine k h = refl
 first_fine (Bad r) k h = h
 
 -- a fresh record passes 9, also where M is 0
-fresh-passes : (M : ℕ) (paper : Bool) (d : Data) → (scalars_of d).paper ≡ paper → possible_of M paper (paused_of (start d)) ≡ true
+fresh-passes : (M : ℕ) (d : Data) → possible_of M (paused_of (start d)) ≡ true
 unfolding possible_of possible_at counted_of paused_of
-fresh-passes zero paper d e = rw (e, same-itself paper)
-fresh-passes (suc M) paper d e = rw (e, same-itself paper, lt-ltb 0 (suc M) (omega arith))
+fresh-passes zero d = refl
+fresh-passes (suc M) d = rw (lt-ltb 0 (suc M) (omega arith))
 
 -- an end is not pending
-pub not-pending : (sh : Sizes) (normalise : Bool) (gamma : Float) (ys e : List Float) (u : End Failure Data) → (ending sh normalise gamma ys e u).answer ≡ pending → ⊥
+not-pending : (sh : Sizes) (normalise : Bool) (gamma : Float) (ys e : List Float) (u : End Failure Data) → (ending sh normalise gamma ys e u).answer ≡ pending → ⊥
 unfolding ending end_outcome how_of
 not-pending sh normalise gamma ys e (end converged c d) q = let z : ◌≡◌ {A = ℕ} 0 1 = cc in omega arith
 not-pending sh normalise gamma ys e (end limit c d) q = let z : ◌≡◌ {A = ℕ} 0 1 = cc in omega arith
@@ -111,7 +110,7 @@ module _ (n p : ℕ) (x y : List Float) (st : Settings) where
     pub is : a ≡ paused_of z
     pub holds : Has (sizes_of n p st) e (store_of (data_of z)) s
     pub leads : Leads (parts_of n p x st) st.max_iter u k z
-    pub passes : possible_of st.max_iter st.paper (paused_of z) ≡ true
+    pub passes : possible_of st.max_iter (paused_of z) ≡ true
     pub fits : limits_of n p (length x) (length y) p st (length s) ≡ Fine
     pub within : Kept (KeptData (sizes_of n p st).p) z
 
@@ -138,12 +137,6 @@ module _ (n p : ℕ) (x y : List Float) (st : Settings) where
     weights-stay : Always (Kept (KeptData (sizes_of n p st).p)) (EndKept (KeptData (sizes_of n p st).p)) (call (parts_of n p x st) st.max_iter b z)
     weights-stay = call_kept (parts_of n p x st) M (KeptData sh.p) (parts_within (length s) g.fits) b z g.within
 
-    -- and the choice, which is the settings' since the record passes 9
-    choice-stays : Always (Kept (ChoiceData st.paper)) (EndKept (ChoiceData st.paper)) (call (parts_of n p x st) st.max_iter b z)
-    choice-stays =
-        call_kept (parts_of n p x st) M (ChoiceData st.paper) (choice-kept sh (terms_of st n) st.tol x st.paper M) b z
-        (record { opened-all = g.within.opened-all; holds = sym (choice-is z) ∙ possible-choice M st.paper (paused_of z) g.passes })
-
     -- a call that ends, ends with u
     pub ended-with : (t : End Failure Data) → call (parts_of n p x st) st.max_iter b z ≡ over t
         → outcome r w' s' ≡ ending (sizes_of n p st) st.normalise (terms_of st n).gamma y e u
@@ -168,14 +161,13 @@ module _ (n p : ℕ) (x y : List Float) (st : Settings) where
       unfolding parts flatly
       poised-next =
           let i : Kept (SizedData sh) t = rw q at sizes-stay in
-          let chosen : Kept (ChoiceData st.paper) t = rw q at choice-stays in
           let h : Has sh e (store_of (data_of t)) s' = record { is = ap (λ (o : Outcome). o.scratch) leaves; sized = of-data sh _ (data_of t) i.holds } in
           let long : length s' ≡ length s = length-of sh h ∙ sym (length-of sh g.holds) in
           record {
             is = ap (λ (o : Outcome). o.paused) leaves;
             holds = h;
             leads = leads-on;
-            passes = own-possible (parts_of n p x st) refl refl M (k + b) st.paper t leads-on.counted pends (choice-is t ∙ chosen.holds);
+            passes = own-possible (parts_of n p x st) refl refl M (k + b) t leads-on.counted pends;
             fits = rw long g.fits;
             within = rw q at weights-stay;
           }
@@ -205,11 +197,11 @@ module _ (n p : ℕ) (x y : List Float) (st : Settings) where
     start_fits = first_fine _ _ unrefused
 
     pub start-poised : Poised (fit_of n p x y st) (rest (sizes_of n p st) s) 0 (start (first_data n p x y st)) a s₁
-    unfolding fit_of optimized paused_of data_of flatly fresh terms_of
+    unfolding fit_of optimized paused_of data_of flatly
     start-poised =
         let o = start-accepted n p x y st s (ReadyS a) s₁ h unrefused in
-        let i : ReadyS a ≡ ReadyS (paused_at Opening 0 none (fresh p (terms_of st n))) = o.0 in
-        let j : a ≡ paused_at Opening 0 none (fresh p (terms_of st n)) = cc in
+        let i : ReadyS a ≡ ReadyS (paused_at Opening 0 none (fresh p (terms_of st n).lambda)) = o.0 in
+        let j : a ≡ paused_at Opening 0 none (fresh p (terms_of st n).lambda) = cc in
         let v = start_store sh st.normalise (terms_of st n) x y in
         let k = accepted start_fits in
         let known = sizes-known n p st in
@@ -222,7 +214,7 @@ module _ (n p : ℕ) (x y : List Float) (st : Settings) where
           is = rw known.columns j;
           holds = m;
           leads = start-leads (parts_of n p x st) M (first_data n p x y st);
-          passes = fresh-passes M st.paper (first_data n p x y st) refl;
+          passes = fresh-passes M (first_data n p x y st);
           fits = rw long start_fits;
           within = start-kept (KeptData sh.p) (first_data n p x y st)
               (first-kept sh (terms_of st n) st.tol x M v (rw known.columns k.some-columns) (rw known.columns k.columns) few (lambda-unsigned st n) f.zeros f.ones);

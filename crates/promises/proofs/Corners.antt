@@ -36,7 +36,7 @@ use Rattle.promises.proofs.Pauses.{pauses-end-as-the-rust}
 module _ (n p : ℕ) (x y : List Float) (st : Settings) where
   -- BUDGET 0 changes nothing, for any record that passes 9 and is not spent, and any content of the scratch
   pub budget-0 : (a : Paused) (s w : List Float) (r : Resumed) (w' s' : List Float) → Resumes n p x y st a s w 0 r w' s'
-      → limits_of n p (length x) (length y) (length w) st (length s) ≡ Fine → possible_of st.max_iter st.paper a ≡ true → spent_at st.max_iter a ≡ false
+      → limits_of n p (length x) (length y) (length w) st (length s) ≡ Fine → possible_of st.max_iter a ≡ true → spent_at st.max_iter a ≡ false
       → Unchanged a s w r w' s' Pending
   unfolding shown run
   budget-0 a s w r w' s' h f q o =
@@ -45,8 +45,8 @@ module _ (n p : ℕ) (x y : List Float) (st : Settings) where
       let whole : flatly sh (vars sh s) (rest sh s) ≡ s = sym (flat-of sh (first-has sh s (accepted-room (accepted f)))) in
       unchanged a s w r w' s' Pending
       (rw (
-        unspent-run st.max_iter st.paper a q (parts_of n p x st) o 0 (vars sh s),
-        paused-back st.max_iter a (vars sh s) (possible-sane st.max_iter st.paper a q o),
+        unspent-run st.max_iter a q (parts_of n p x st) o 0 (vars sh s),
+        paused-back st.max_iter a (vars sh s) (possible-sane st.max_iter a q o),
         store-back a (vars sh s),
         whole,
       ) at (resume-accepted n p x y st a s w 0 r w' s' h k))

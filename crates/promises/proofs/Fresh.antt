@@ -32,9 +32,9 @@ module _ (sh : Sizes) where
   unfolding statistics_store ◌⟨◌≔◌⟩ upd
   statistics-fresh normalise m v h = record { zeros = h.zeros; ones = h.ones }
 
-  targets_fresh : (tm : Terms) (ys : List Float) (v : Store) → FreshIn sh.p v → FreshIn sh.p (targets_store sh tm ys v)
+  targets_fresh : (ys : List Float) (v : Store) → FreshIn sh.p v → FreshIn sh.p (targets_store sh ys v)
   unfolding targets_store ◌⟨◌≔◌⟩ upd
-  targets_fresh tm ys v h = record { zeros = h.zeros; ones = h.ones }
+  targets_fresh ys v h = record { zeros = h.zeros; ones = h.ones }
 
   module _ (normalise : Bool) (tm : Terms) (m : List Float) where
     lazy-fresh : (v : Store) → FreshIn sh.p v → FreshIn sh.p (lazy_gram_store sh tm m (recip_store sh v))
@@ -54,4 +54,4 @@ module _ (sh : Sizes) where
 
     pub start-fresh : (ys : List Float) → FreshIn sh.p (start_store sh normalise tm m ys)
     unfolding start_store
-    start-fresh ys = prepared-fresh _ (targets_fresh tm ys _ (statistics-fresh normalise m _ blank-fresh))
+    start-fresh ys = prepared-fresh _ (targets_fresh ys _ (statistics-fresh normalise m _ blank-fresh))

@@ -80,7 +80,7 @@ module _ (n p : ℕ) (x y : List Float) (st : Settings) where
         (subst (λ (c : Scalars). Within sh.p c.t (part s (off sh W) sh.p) (part s (off sh U) sh.p)) (sym b)
         (subst (λ (v : Store). Within sh.p (scalars_of d).t (v W) (v U)) (sym (vars-of sh g.poised.holds)) h))
 
-    pause-counted : CountedAt st k a
+    pause-counted : CountedAt st.max_iter k a
     unfolding made
     pause-counted = record {
       steps = rw (g.poised.is, counts-are g.state) g.poised.leads.counted.steps;
@@ -94,7 +94,7 @@ module _ (n p : ℕ) (x y : List Float) (st : Settings) where
       pause-keeps = pause-within _ _ _ r.paused s₂ (on-the-way n p x y st s s₁ a h bs r w s₂ c pend)
 
       -- and the counts add up to the budgets given
-      pub pause-counts : CountedAt st (total bs) r.paused
+      pub pause-counts : CountedAt st.max_iter (total bs) r.paused
       pause-counts = pause-counted _ _ _ r.paused s₂ (on-the-way n p x y st s s₁ a h bs r w s₂ c pend)
 
     -- BEFORE THE FIRST CALL they are so in the scratch that the start leaves

@@ -7,4 +7,3 @@ pub mod Pauses
 pub mod Kept
 pub mod Corners
 pub mod Panels
-pub mod Choice

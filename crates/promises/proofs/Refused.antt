@@ -52,11 +52,11 @@ module _ (n p : ℕ) (x y : List Float) (st : Settings) (s : List Float) (o : St
 
   -- ACCEPTED: a fresh record, and the scratch holds a fresh fit's vectors, its excess as it was
   pub start-accepted : start_check n p x y st s ≡ Fine
-      → (o ≡ ReadyS (paused_at Opening 0 none (fresh p (terms_of st n))))
+      → (o ≡ ReadyS (paused_at Opening 0 none (fresh p (terms_of st n).lambda)))
       × (s₁ ≡ flatly (sizes_of n p st) (start_store (sizes_of n p st) st.normalise (terms_of st n) x y) (rest (sizes_of n p st) s))
   unfolding start_of
   start-accepted q =
-      starts-same o (ReadyS (paused_at Opening 0 none (fresh p (terms_of st n)))) s₁
+      starts-same o (ReadyS (paused_at Opening 0 none (fresh p (terms_of st n).lambda))) s₁
       (flatly (sizes_of n p st) (start_store (sizes_of n p st) st.normalise (terms_of st n) x y) (rest (sizes_of n p st) s))
       (start-when (limits_of n p (length x) (length y) p st (length s)) (start_values x y n p st.normalise) s _ _ h Fine q)
 
@@ -73,7 +73,7 @@ module _ (n p : ℕ) (x y : List Float) (st : Settings) (a : Paused) (s w : List
   unfolding resume_of
   resume-refused q e =
       unchanged a s w r w' s' (Refused q)
-      (resume-when (limits_of n p (length x) (length y) (length w) st (length s)) (cond (possible_of st.max_iter st.paper a) Fine (Bad Record)) a w s _ _ h (Bad q) e)
+      (resume-when (limits_of n p (length x) (length y) (length w) st (length s)) (cond (possible_of st.max_iter a) Fine (Bad Record)) a w s _ _ h (Bad q) e)
 
   -- GOES ON: the state of the fit after the call
   pub resume-accepted : resume_check n p x y st a s w ≡ Fine
@@ -81,4 +81,4 @@ module _ (n p : ℕ) (x y : List Float) (st : Settings) (a : Paused) (s w : List
       ≡ shown (sizes_of n p st) st.normalise (terms_of st n).gamma y (rest (sizes_of n p st) s) w
       (call (parts (sizes_of n p st) (terms_of st n) st.tol x) st.max_iter b (state_of a (vars (sizes_of n p st) s)))
   unfolding resume_of
-  resume-accepted e = resume-when (limits_of n p (length x) (length y) (length w) st (length s)) (cond (possible_of st.max_iter st.paper a) Fine (Bad Record)) a w s _ _ h Fine e
+  resume-accepted e = resume-when (limits_of n p (length x) (length y) (length w) st (length s)) (cond (possible_of st.max_iter a) Fine (Bad Record)) a w s _ _ h Fine e

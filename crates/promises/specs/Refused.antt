@@ -22,7 +22,7 @@ start_check n p x y st s = first_of (limits_of n p (length x) (length y) p st (l
 -- 1 to 4, then 9
 abbrev pub resume_check : ℕ → ℕ → List Float → List Float → Settings → Paused → List Float → List Float → Checked
 resume_check n p x y st a s w =
-    first_of (limits_of n p (length x) (length y) (length w) st (length s)) (cond (possible_of st.max_iter st.paper a) Fine (Bad Record))
+    first_of (limits_of n p (length x) (length y) (length w) st (length s)) (cond (possible_of st.max_iter a) Fine (Bad Record))
 
 -- a call that answers g and leaves record, weights and scratch as they were
 pub record Unchanged (a : Paused) (s w : List Float) (r : Resumed) (w' s' : List Float) (g : Answer) : Type 0 where

@@ -29,9 +29,9 @@ EndWithin p (limit c o) = Within p o.t o.w o.u
 EndWithin p (failed k c) = Unit {0}
 
 -- as many steps were made as were given, and the record passes 9: its counts are within their bounds
-pub record CountedAt (st : Settings) (given : ℕ) (a : Paused) : Type 0 where
+pub record CountedAt (M given : ℕ) (a : Paused) : Type 0 where
   pub steps : a.counts.rounds.0 + a.counts.solver.0 + a.counts.trials.0 ≡ given
-  pub passes : possible_of st.max_iter st.paper a ≡ true
+  pub passes : possible_of M a ≡ true
 
 -- at most M openings, and for each at most 4,999 solver rounds and 100 trials
 pub record CountsWithin (M : ℕ) (c : Counts) : Type 0 where

@@ -5,7 +5,7 @@ use Rattle.pause.specs.Parts.{Counts}
 use Rattle.pause.specs.Paused.{State, opening, solving, searching, data_of}
 use Rattle.layout.specs.Slots.{Store}
 use Rattle.lasso_optimizer.specs.declared.Scalars.{Scalars}
-use Rattle.lasso_optimizer.specs.Data.{Data, held, scalars_of, store_of}
+use Rattle.lasso_optimizer.specs.Data.{Data, held, store_of}
 use Rattle.records.specs.declared.Paused.{Paused}
 use Rattle.records.specs.declared.Stage.{Stage}
 use Rattle.records.specs.declared.Stage.TheVariants.{Opening, Solving, Searching, Ended}
@@ -38,21 +38,3 @@ store_at Ended r c a v = refl
 pub store-back : (a : Paused) (v : Store) → store_of (data_of (state_of a v)) ≡ v
 unfolding state_of
 store-back a v = store_at a.stage a.round (counts_of a.counts) a.scalars v
-
--- the choice stands in the record as in the state's data, and in the data as in the record
-pub choice-is : (x : State Data) → (paused_of x).scalars.paper ≡ (scalars_of (data_of x)).paper
-unfolding paused_of data_of
-choice-is (opening r c d) = refl
-choice-is (solving r k c d) = refl
-choice-is (searching r j c d) = refl
-
-choice-at : (g : Stage) (r : ℕ) (c : Counts) (a : Scalars) (v : Store) → (scalars_of (data_of (state_at g r c (held a v)))).paper ≡ a.paper
-unfolding data_of
-choice-at Opening r c a v = refl
-choice-at (Solving k) r c a v = refl
-choice-at (Searching j) r c a v = refl
-choice-at Ended r c a v = refl
-
-pub choice-back : (a : Paused) (v : Store) → (scalars_of (data_of (state_of a v))).paper ≡ a.scalars.paper
-unfolding state_of
-choice-back a v = choice-at a.stage a.round (counts_of a.counts) a.scalars v

@@ -2,9 +2,8 @@
 use Prim.Native.Nat.{ℕ, ◌+◌, ◌*◌, ◌<◌, ◌≤◌}
 use native.Mathlib.Omega.{arith}
 use mathlib.Core.Path.{◌≡◌, refl}
-use mathlib.Core.Bool.{Bool, true, false, ◌&&◌, ◌||◌, false≢true, and-eq-true_iff}
-use lib.Dec.{ltb, leb, eqb, not_T}
-use lib.Ieee.Bits.{is_true, is_false}
+use mathlib.Core.Bool.{true, false, ◌&&◌, ◌||◌, false≢true, and-eq-true_iff}
+use lib.Dec.{ltb, leb, eqb}
 use borrow.Author.Tests.{ltb-true, leb-true, leb-false, eqb-true, lt-ltb, le-ltb, le-leb, eq-eqb}
 use Rattle.pause.specs.Progress.{over, then, run}
 use Rattle.pause.specs.Parts.{Parts, Counts, limit, end}
@@ -17,28 +16,7 @@ use Rattle.records.specs.declared.Paused.{Paused}
 use Rattle.records.specs.declared.Stage.{Stage}
 use Rattle.records.specs.declared.Stage.TheVariants.{Opening, Solving, Searching, Ended}
 use Rattle.records.specs.Record.{counts_of, counts_back, state_at, state_of, paused_of, SaneAt, Sane}
-use Rattle.records.specs.Records.{counted_of, same_as, possible_at, possible_of, spent_of, spent_at}
-
--- ---- the choice
-
-pub same-itself : (b : Bool) → same_as b b ≡ true
-same-itself true = refl
-same-itself false = refl
-
-same-is : (a b : Bool) → same_as a b ≡ true → b ≡ a
-same-is true b h = h
-same-is false true h = absurd (false≢true h)
-same-is false false h = refl
-
--- a record that passes has the settings' choice
-pub possible-choice : (M : ℕ) (paper : Bool) (a : Paused) → possible_of M paper a ≡ true → a.scalars.paper ≡ paper
-unfolding possible_of
-possible-choice M paper a h =
-    same-is paper a.scalars.paper ((and-eq-true_iff (same_as paper a.scalars.paper) (possible_at a.stage M a.round a.counts)).0 h).0
-
--- and one of the other choice does not pass
-pub other-refused : (M : ℕ) (paper : Bool) (a : Paused) → (a.scalars.paper ≡ paper → ⊥) → possible_of M paper a ≡ false
-other-refused M paper a h = is_false (possible_of M paper a) (not_T (possible_of M paper a) (λ t. h (possible-choice M paper a (is_true (possible_of M paper a) t))))
+use Rattle.records.specs.Records.{counted_of, possible_at, possible_of, spent_of, spent_at}
 
 -- ---- the counts
 
@@ -103,12 +81,11 @@ module _ {X : Type 0} (F : Parts X Data) (M r : ℕ) (c : Counts) (b : ℕ) (d :
   run_at (Searching j) s = refl
   run_at Ended s = absurd s
 
-module _ (M : ℕ) (paper : Bool) (a : Paused) (passes : possible_of M paper a ≡ true) where
+module _ (M : ℕ) (a : Paused) (passes : possible_of M a ≡ true) where
   -- a record that is not spent is one that a step may take
   pub possible-sane : spent_at M a ≡ false → Sane M a
   unfolding possible_of spent_at Sane
-  possible-sane o =
-      sane-at a.stage M a.round a.counts ((and-eq-true_iff (same_as paper a.scalars.paper) (possible_at a.stage M a.round a.counts)).0 passes).1 o
+  possible-sane o = sane-at a.stage M a.round a.counts passes o
 
   -- and goes on by its steps
   pub unspent-run : {X : Type 0} (F : Parts X Data) → spent_at M a ≡ false → (b : ℕ) (v : Store) → call F M b (state_of a v) ≡ run (step F M) b (state_of a v)
@@ -124,32 +101,25 @@ spent-over M a F o b v = let p = spent-at a.stage M a.round o in rw (p.0, le-ltb
 -- ---- the machine's own records, where its parts have the fit's limits
 
 module _ {X : Type 0} (F : Parts X Data) (solves : F.solves ≡ 4999) (trials : F.trials ≡ 100) where
-  own-stage : (M n : ℕ) (x : State Data) → Counted F M n x → Pending M x
-      → possible_at (paused_of x).stage M (paused_of x).round (paused_of x).counts ≡ true
-  unfolding StageIn Pending possible_at paused_of
-  own-stage M n (opening r c d) h p =
+  pub own-possible : (M n : ℕ) (x : State Data) → Counted F M n x → Pending M x → possible_of M (paused_of x) ≡ true
+  unfolding StageIn Pending possible_of possible_at paused_of
+  own-possible M n (opening r c d) h p =
       let w = h.within in
       let s : c.solver ≤ 4999 * r = rw solves at w.solver-in in
       let t : c.trials ≤ 100 * r = rw trials at w.trials-in in
       let k : CountedIn r (counts_back c) = record { opened-all = w.opened-all; solver-in = s; trials-in = t } in
       rw (lt-ltb r M p) (counted_of_lem r (counts_back c) k)
-  own-stage M n (solving r i c d) h p =
+  own-possible M n (solving r i c d) h p =
       let w = h.within in
       let l : i ≤ 4999 = rw solves at w.last in
       let s : c.solver < 4999 * r + i = rw solves at w.solver-in in
       let t : c.trials ≤ 100 * r = rw trials at w.trials-in in
       let k : CountedIn (r + 1) (counts_back c) = record { opened-all = w.opened-all; solver-in = omega arith; trials-in = omega arith } in
       rw (lt-ltb r M w.inside, le-leb 1 i w.first, le-leb i 4999 l) (counted_of_lem (r + 1) (counts_back c) k)
-  own-stage M n (searching r j c d) h p =
+  own-possible M n (searching r j c d) h p =
       let w = h.within in
       let l : j < 100 = rw trials at w.last in
       let s : c.solver ≤ 4999 * (r + 1) = rw solves at w.solver-in in
       let t : c.trials ≤ 100 * r + j = rw trials at w.trials-in in
       let k : CountedIn (r + 1) (counts_back c) = record { opened-all = w.opened-all; solver-in = s; trials-in = omega arith } in
       rw (lt-ltb r M w.inside, le-leb j 99 (omega arith)) (counted_of_lem (r + 1) (counts_back c) k)
-
-  -- of the settings' choice
-  pub own-possible : (M n : ℕ) (paper : Bool) (x : State Data) → Counted F M n x → Pending M x → (paused_of x).scalars.paper ≡ paper
-      → possible_of M paper (paused_of x) ≡ true
-  unfolding possible_of
-  own-possible M n paper x h p e = rw (e, same-itself paper, own-stage M n x h p)

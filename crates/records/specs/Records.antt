@@ -1,5 +1,5 @@
 -- Which records a call may continue: 01's refusal 9. Definitions only.
-use Rattle.std.specs.Prelude.{Bool, true, false, not, ◌&&◌, ◌||◌, ℕ, ◌+◌, ◌*◌, ltb, leb, eqb}
+use Rattle.std.specs.Prelude.{Bool, false, ◌&&◌, ◌||◌, ℕ, ◌+◌, ◌*◌, ltb, leb, eqb}
 use Rattle.arrays.specs.Sums.{plus0}
 use Rattle.records.specs.declared.Counts.{Counts}
 use Rattle.records.specs.declared.Paused.{Paused}
@@ -17,14 +17,8 @@ possible_at (Solving k) M r c = ltb r M && leb 1 k && leb k 4999 && counted_of (
 possible_at (Searching j) M r c = ltb r M && leb j 99 && counted_of (r + 1) c
 possible_at Ended M r c = false
 
--- both or neither
-abbrev pub same_as : Bool → Bool → Bool
-same_as true b = b
-same_as false b = not b
-
--- M and the choice are the settings'
-unfoldable pub possible_of : ℕ → Bool → Paused → Bool
-possible_of M paper a = same_as paper a.scalars.paper && possible_at a.stage M a.round a.counts
+unfoldable pub possible_of : ℕ → Paused → Bool
+possible_of M a = possible_at a.stage M a.round a.counts
 
 -- no step is to be taken: M rounds are made at an opening
 unfoldable pub spent_of : Stage → ℕ → ℕ → Bool
@@ -42,5 +36,5 @@ ended_of c = record {
   stage = Ended;
   round = 0;
   counts = c;
-  scalars = record { t = plus0; s = plus0; dual = plus0; pcgtol = plus0; bnrm = plus0; bkden = plus0; error = plus0; phi = plus0; gdx = plus0; missed = false; paper = false };
+  scalars = record { t = plus0; s = plus0; dual = plus0; pcgtol = plus0; bnrm = plus0; bkden = plus0; error = plus0; phi = plus0; gdx = plus0; missed = false };
 }

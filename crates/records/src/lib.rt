@@ -3,7 +3,7 @@ ghost use Rattle.std.specs.Prelude.{◌≡◌, ◌≤◌};
 ghost use Rattle.pause.specs.Parts.{none};
 ghost use Rattle.records.specs.Record.{counts_back, paused_at};
 ghost use Rattle.records.specs.declared.Stage.TheVariants.{Opening};
-ghost use Rattle.records.specs.Records.{counted_of, same_as, possible_at, possible_of, spent_at, ended_of};
+ghost use Rattle.records.specs.Records.{counted_of, possible_of, spent_at, ended_of};
 
 use lasso_optimizer::Scalars;
 use numbers::bits::canonical;
@@ -59,29 +59,11 @@ fn counted(opened: u64, c: Counts) -> bool
     100 * opened >= t.0
 }
 
-// Whether a call may continue the record, which it refuses with 9 where not: one of the same choice that a fit of so many rounds can have.
-pub fn possible(limit: u64, paper: bool, rec: Paused) -> bool
+// Whether a call may continue the record, which it refuses with 9 where not. Never one that has ended. With a limit of 0 no round is below it, and only a
+// record at its start is possible.
+pub fn possible(limit: u64, rec: Paused) -> bool
     requires { limit ≤ 1000 }
-    ensures { result ≡ possible_of limit paper rec }
-{
-    let a = rec.scalars;
-    if !same(paper, a.paper) {
-        return false;
-    }
-    staged(limit, rec)
-}
-
-fn same(a: bool, b: bool) -> bool
-    ensures { result ≡ same_as a b }
-{
-    if a { b } else { !b }
-}
-
-// Whether stage, round and counts go together. Never where the fit has ended. With a limit of 0 no round is below it, and only a record at its start is
-// possible.
-fn staged(limit: u64, rec: Paused) -> bool
-    requires { limit ≤ 1000 }
-    ensures { result ≡ possible_at rec.stage limit rec.round rec.counts }
+    ensures { result ≡ possible_of limit rec }
 {
     let stage = rec.stage;
     let c = rec.counts;
@@ -167,7 +149,6 @@ pub fn ended(c: Counts) -> Paused
             phi: 0.0,
             gdx: 0.0,
             missed: false,
-            paper: false,
         },
     }
 }
@@ -199,7 +180,6 @@ fn clean_scalars(a: Scalars) -> Scalars
         phi: canonical(a.phi),
         gdx: canonical(a.gdx),
         missed: a.missed,
-        paper: a.paper,
     }
 }
 

@@ -47,13 +47,13 @@ fn scratch(q: Spoilt) -> [f64; 20600]
 }
 
 fn spoilt(w: &[u64]) -> Spoilt
-    requires { length w.now ≡ 38 }
+    requires { length w.now ≡ 36 }
 {
     Spoilt {
-        value: w[16],
-        from: w[17] as usize,
-        times: w[18] as usize,
-        apart: w[19] as usize,
+        value: w[15],
+        from: w[16] as usize,
+        times: w[17] as usize,
+        apart: w[18] as usize,
     }
 }
 
@@ -70,33 +70,33 @@ fn length_in(word: u64, most: usize) -> usize
 
 // What a call reads besides the matrix: a prediction its weights, any other its targets or right side.
 fn read_words(w: &[u64]) -> u64
-    requires { length w.now ≡ 38 }
+    requires { length w.now ≡ 36 }
 {
-    if w[0] == PREDICT { w[14] } else { w[13] }
+    if w[0] == PREDICT { w[13] } else { w[12] }
 }
 
 // What it writes besides the scratch: weights, predictions, or the solver's start.
 fn written_words(w: &[u64]) -> u64
-    requires { length w.now ≡ 38 }
+    requires { length w.now ≡ 36 }
 {
-    if w[0] == PREDICT { w[13] } else { w[14] }
+    if w[0] == PREDICT { w[12] } else { w[13] }
 }
 
 // The places between what a call reads and what it writes: a prediction's intercept has one.
 fn ahead(w: &[u64]) -> usize
-    requires { length w.now ≡ 38 }
+    requires { length w.now ≡ 36 }
 {
     if w[0] == PREDICT { 1 } else { 0 }
 }
 
 pub fn called(w: &[u64])
-    requires { length w.now ≡ 38 }
+    requires { length w.now ≡ 36 }
 {
     let q = spoilt(w);
-    let a = length_in(w[12], LENT);
+    let a = length_in(w[11], LENT);
     let b = a + length_in(read_words(w), LENT);
     let c = length_in(written_words(w), LENT);
-    let k = length_in(w[15], SCRATCH);
+    let k = length_in(w[14], SCRATCH);
     let xs = inputs(q);
     let mut vs = weights(q, std::num::wrapping_add_usize(b, ahead(w)));
     let mut ss = scratch(q);
@@ -105,7 +105,7 @@ pub fn called(w: &[u64])
 }
 
 fn tried(w: &[u64], x: &[f64], y: &[f64], v: &mut [f64], s: &mut [f64])
-    requires { length w.now ≡ 38 }
+    requires { length w.now ≡ 36 }
 {
     match w[0] {
         START => started(w, x, y, s),
@@ -116,16 +116,16 @@ fn tried(w: &[u64], x: &[f64], y: &[f64], v: &mut [f64], s: &mut [f64])
 }
 
 fn started(w: &[u64], x: &[f64], y: &[f64], s: &mut [f64])
-    requires { length w.now ≡ 38 }
+    requires { length w.now ≡ 36 }
 {
-    let mut rec = [MARK; 17];
+    let mut rec = [MARK; 16];
     let mut answer = [MARK; 7];
     let r = xangoravit_start(
         w[1] as usize,
         w[2] as usize,
         x,
         y,
-        &w[3..12],
+        &w[3..11],
         s,
         &mut rec,
         &mut answer,
@@ -135,12 +135,12 @@ fn started(w: &[u64], x: &[f64], y: &[f64], s: &mut [f64])
         wrote(b"ready", n);
         return;
     }
-    let marks = [MARK; 17];
+    let marks = [MARK; 16];
     refused(r, &answer, n == 0 && equal(&rec, &marks));
 }
 
 fn resumed(w: &[u64], x: &[f64], y: &[f64], weights: &mut [f64], s: &mut [f64])
-    requires { length w.now ≡ 38 }
+    requires { length w.now ≡ 36 }
 {
     let mut rec = record(w);
     let mut answer = [MARK; 7];
@@ -149,26 +149,26 @@ fn resumed(w: &[u64], x: &[f64], y: &[f64], weights: &mut [f64], s: &mut [f64])
         w[2] as usize,
         x,
         y,
-        &w[3..12],
+        &w[3..11],
         &mut rec,
         s,
         weights,
-        w[37],
+        w[35],
         &mut answer,
     );
     let q = spoilt(w);
     let n = stored::memory::written(s, SCRATCH_AT, q);
-    let nothing = n == 0 && kept(weights, behind(x, y), q) && equal(&rec, &w[20..37]);
+    let nothing = n == 0 && kept(weights, behind(x, y), q) && equal(&rec, &w[19..35]);
     told(r, &answer, n, nothing);
 }
 
-fn record(w: &[u64]) -> [u64; 17]
-    requires { length w.now ≡ 38 }
-    ensures { 17 ≡ length result }
+fn record(w: &[u64]) -> [u64; 16]
+    requires { length w.now ≡ 36 }
+    ensures { 16 ≡ length result }
 {
     [
-        w[20], w[21], w[22], w[23], w[24], w[25], w[26], w[27], w[28], w[29], w[30], w[31], w[32],
-        w[33], w[34], w[35], w[36],
+        w[19], w[20], w[21], w[22], w[23], w[24], w[25], w[26], w[27], w[28], w[29], w[30], w[31],
+        w[32], w[33], w[34],
     ]
 }
 
@@ -192,7 +192,7 @@ fn told(r: u64, answer: &[u64], n: usize, nothing: bool)
 
 // The values are matrix, weights and intercept.
 fn predicted(w: &[u64], x: &[f64], weights: &[f64], out: &mut [f64])
-    requires { length w.now ≡ 38 }
+    requires { length w.now ≡ 36 }
 {
     let q = spoilt(w);
     let at = behind(x, weights);
@@ -222,7 +222,7 @@ fn behind(x: &[f64], y: &[f64]) -> usize {
 
 // The values are matrix, right side and start.
 fn ended(w: &[u64], m: &[f64], right: &[f64], x: &mut [f64], s: &mut [f64])
-    requires { length w.now ≡ 38 }
+    requires { length w.now ≡ 36 }
 {
     let q = spoilt(w);
     let mut answer = [MARK; 7];

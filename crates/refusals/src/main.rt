@@ -1,4 +1,4 @@
-// The refusals of start, resume, predict and the lone solver, by the calls over words. Standard input has a record of 38 words for each call: which
+// The refusals of start, resume, predict and the lone solver, by the calls over words. Standard input has a record of 36 words for each call: which
 // call (0 start, 1 resume, 2 predict, 3 the solver); rows, columns; the settings; the lengths of matrix, targets, weights and scratch; the bits of a value, the first place
 // that has it among the values of the call, how many have it and how far apart; the paused record; the budget. All other values are finite.
 // The targets of a prediction are the slice that it writes. The solver's order stands for the rows, right side and start for targets and weights,
@@ -35,8 +35,11 @@ fn next(t: Tally) -> Tally
 
 // More than the buffers hold counts as damage.
 fn row(w: &[u64]) -> Verdict {
-    if w.len() != 38 {
+    if w.len() != 36 {
         return Verdict::DamagedAt(0);
+    }
+    if w[11] > calls::LENT as u64 {
+        return Verdict::DamagedAt(12);
     }
     if w[12] > calls::LENT as u64 {
         return Verdict::DamagedAt(13);
@@ -44,11 +47,8 @@ fn row(w: &[u64]) -> Verdict {
     if w[13] > calls::LENT as u64 {
         return Verdict::DamagedAt(14);
     }
-    if w[14] > calls::LENT as u64 {
+    if w[14] > calls::SCRATCH as u64 {
         return Verdict::DamagedAt(15);
-    }
-    if w[15] > calls::SCRATCH as u64 {
-        return Verdict::DamagedAt(16);
     }
     table::given(w);
     calls::called(w);

@@ -4,11 +4,11 @@ ghost use Rattle.std.specs.Prelude.{◌≡◌, ◌≤◌, length};
 pub fn head() {
     io::write_all(
         1,
-        b"start n p alpha l1_ratio tol M R C normalise lazy paper matrix targets scratch value from times apart answer\n",
+        b"start n p alpha l1_ratio tol M R C normalise lazy matrix targets scratch value from times apart answer\n",
     );
     io::write_all(
         1,
-        b"resume n p alpha l1_ratio tol M R C normalise lazy paper matrix targets weights scratch value from times apart stage index round rounds solver trials paper budget answer\n",
+        b"resume n p alpha l1_ratio tol M R C normalise lazy matrix targets weights scratch value from times apart stage index round rounds solver trials budget answer\n",
     );
     io::write_all(
         1,
@@ -22,41 +22,41 @@ pub fn head() {
 
 // The words that the call takes.
 pub fn given(w: &[u64])
-    requires { length w.now ≡ 38 }
+    requires { length w.now ≡ 36 }
 {
     match w[0] {
         0 => {
             io::write_all(1, b"start ");
-            columns(w, 1, 14);
-            columns(w, 15, 20);
+            columns(w, 1, 13);
+            columns(w, 14, 19);
         }
         1 => {
             io::write_all(1, b"resume ");
-            columns(w, 1, 26);
-            columns(w, 36, 38);
+            columns(w, 1, 25);
+            columns(w, 35, 36);
         }
         2 => {
             io::write_all(1, b"predict ");
             columns(w, 1, 3);
-            columns(w, 12, 15);
-            columns(w, 16, 20);
+            columns(w, 11, 14);
+            columns(w, 15, 19);
         }
         _ => {
             io::write_all(1, b"solve ");
             columns(w, 1, 2);
             columns(w, 5, 7);
-            columns(w, 12, 20);
+            columns(w, 11, 19);
         }
     }
 }
 
 // The first three settings and the value are bits.
 fn columns(w: &[u64], from: usize, to: usize)
-    requires w_len { length w.now ≡ 38 }
-    requires to_bound { to ≤ 38 }
+    requires w_len { length w.now ≡ 36 }
+    requires to_bound { to ≤ 36 }
 {
     for i in from..to {
-        column(w[i], 2 < i && i < 6 || i == 16);
+        column(w[i], 2 < i && i < 6 || i == 15);
     }
 }
 

@@ -21,7 +21,7 @@ use stored::tally::Verdict;
 struct Seen(bool, bool, bool, bool);
 
 pub fn verdict(w: &[u64], x: &[f64], y: &[f64]) -> Verdict {
-    if w.len() < 14 {
+    if w.len() < 13 {
         return Verdict::DamagedAt(0);
     }
     let one = tried(w, x, y, 1, 1);
@@ -43,11 +43,11 @@ fn both(a: Seen, b: Seen) -> Seen {
 
 // On a marked scratch that is eight words longer than it need be. The places in it are those of docs/LAYOUT.md.
 fn tried(w: &[u64], x: &[f64], y: &[f64], rows: usize, cols: usize) -> Seen
-    requires in_bounds { 14 ≤ length w.now }
+    requires in_bounds { 13 ≤ length w.now }
     requires rows_bound { rows ≤ 256 }
     requires cols_bound { cols ≤ 32 }
 {
-    let st = settings_from(&w[2..11]);
+    let st = settings_from(&w[2..10]);
     let st = Settings {
         panel_rows: rows,
         panel_cols: cols,
@@ -115,7 +115,7 @@ fn looked(
     y: &[f64],
     s: &mut [f64],
 ) -> Seen
-    requires in_bounds { 14 ≤ length w.now }
+    requires in_bounds { 13 ≤ length w.now }
     requires n_bound { n ≤ 4096 }
     requires p_bound { p ≤ 64 }
     requires gram_bound { gram ≤ 50000 }
@@ -139,7 +139,7 @@ fn vectors(w: &[u64], n: usize, p: usize, gram: usize, s: &mut [f64])
 {
     let k = n + p;
     let g = area(p, p);
-    let v = 14 + 3 * p + 2 * k + g;
+    let v = 13 + 3 * p + 2 * k + g;
     put(s, 0, w, v, p);
     put(s, gram + g + 2 * k, w, v + p, k);
 }
@@ -166,7 +166,7 @@ fn multiplied(st: Settings, n: usize, p: usize, x: &[f64], s: &mut [f64]) -> boo
 }
 
 fn compared(w: &[u64], st: Settings, n: usize, p: usize, gram: usize, s: &[f64]) -> Seen
-    requires in_bounds { 14 ≤ length w.now }
+    requires in_bounds { 13 ≤ length w.now }
     requires n_bound { n ≤ 4096 }
     requires p_bound { p ≤ 64 }
     requires gram_bound { gram ≤ 50000 }
@@ -174,8 +174,8 @@ fn compared(w: &[u64], st: Settings, n: usize, p: usize, gram: usize, s: &[f64])
     let k = n + p;
     let g = area(p, p);
     let y = gram + g;
-    let b = 14 + 2 * p;
-    let statistics = holds(s, 32 * p, w, 11, 2 * p) && terms(st, n, w, b - 3);
+    let b = 13 + 2 * p;
+    let statistics = holds(s, 32 * p, w, 10, 2 * p) && terms(st, n, w, b - 3);
     let targets = holds(s, y, w, b, k);
     let products = holds(s, y + k, w, b + k + g, k) && holds(s, 30 * p, w, b + 2 * k + g, p);
     Seen(

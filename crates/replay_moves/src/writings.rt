@@ -11,7 +11,7 @@ use stored::bytes::words_for;
 use stored::tally::Verdict;
 
 pub fn verdict(w: &[u64], x: &[f64], y: &[f64]) -> Verdict {
-    if w.len() < 20 {
+    if w.len() < 19 {
         return Verdict::DamagedAt(0);
     }
     let family = w[1];
@@ -23,8 +23,8 @@ pub fn verdict(w: &[u64], x: &[f64], y: &[f64]) -> Verdict {
         return Verdict::DamagedAt(6);
     }
     match w[0] {
-        1 => parted(Version::One, size, &w[3..17], &w[17..], x, y),
-        2 => parted(Version::Two(family as u32), size, &w[3..17], &w[17..], x, y),
+        1 => parted(Version::One, size, &w[3..16], &w[16..], x, y),
+        2 => parted(Version::Two(family as u32), size, &w[3..16], &w[16..], x, y),
         _ => Verdict::DamagedAt(4),
     }
 }
@@ -32,19 +32,19 @@ pub fn verdict(w: &[u64], x: &[f64], y: &[f64]) -> Verdict {
 // Sources and targets, and the bytes that are due.
 fn parted(v: Version, size: usize, call: &[u64], w: &[u64], x: &[f64], y: &[f64]) -> Verdict
     requires size_bound { size ≤ 82000 }
-    requires call_len { length call.now ≡ 14 }
+    requires call_len { length call.now ≡ 13 }
     requires in_bounds { 3 ≤ length w.now }
 {
     let s = w[0] as usize;
     if s > 4096 {
-        return Verdict::DamagedAt(21);
+        return Verdict::DamagedAt(20);
     }
     if w.len() < s + 3 {
         return Verdict::DamagedAt(0);
     }
     let t = w[s + 1] as usize;
     if t > 4096 {
-        return Verdict::DamagedAt(s as u64 + 22);
+        return Verdict::DamagedAt(s as u64 + 21);
     }
     let e = s + t + 2;
     if w.len() < e + 1 {
@@ -52,7 +52,7 @@ fn parted(v: Version, size: usize, call: &[u64], w: &[u64], x: &[f64], y: &[f64]
     }
     let m = w[e] as usize;
     if m > 65536 {
-        return Verdict::DamagedAt(e as u64 + 21);
+        return Verdict::DamagedAt(e as u64 + 20);
     }
     if w.len() != e + 1 + words_for(m) {
         return Verdict::DamagedAt(0);
@@ -82,7 +82,7 @@ fn listed(
     m: usize,
 ) -> Verdict
     requires size_bound { size ≤ 82000 }
-    requires call_len { length call.now ≡ 14 }
+    requires call_len { length call.now ≡ 13 }
     requires sources_len_bound { length sources.now ≤ 4096 }
     requires targets_len_bound { length targets.now ≤ 4096 }
     requires m_bound { m ≤ 8 * length due.now }
@@ -94,10 +94,10 @@ fn listed(
     let first = &mut one[0..s];
     let second = &mut two[0..t];
     if !claims(sources, first) {
-        return Verdict::DamagedAt(21);
+        return Verdict::DamagedAt(20);
     }
     if !claims(targets, second) {
-        return Verdict::DamagedAt(s as u64 + 22);
+        return Verdict::DamagedAt(s as u64 + 21);
     }
     tried(v, size, call, first, second, x, y, due, m)
 }
@@ -134,20 +134,20 @@ fn tried(
     m: usize,
 ) -> Verdict
     requires size_bound { size ≤ 82000 }
-    requires call_len { length call.now ≡ 14 }
+    requires call_len { length call.now ≡ 13 }
     requires m_bound { m ≤ 8 * length due.now }
 {
     let mut space = room();
     let out = &mut space[0..size];
     let n = call[3] as usize;
     let p = call[4] as usize;
-    let st = settings_from(&call[5..14]);
+    let st = settings_from(&call[5..13]);
     let r = write_sheet(v, n, p, st, sources, targets, x, y, out);
     Verdict::Compared(answered(r, call), laid(out, due, m), kept(out, m), true)
 }
 
 fn answered(r: Written, w: &[u64]) -> bool
-    requires { length w.now ≡ 14 }
+    requires { length w.now ≡ 13 }
 {
     match r {
         Written::Sheet(n) => w[0] == 0 && w[1] == 0 && n as u64 == w[2],

@@ -1,5 +1,5 @@
 -- Settings are allowed just where each is in 01's range. Assumes nothing.
-use mathlib.Core.Path.{◌≡◌, refl, sym, subst, ◌∙◌}
+use mathlib.Core.Path.{◌≡◌, refl, subst}
 use mathlib.Core.Logic.{◌⊎◌, inl, inr}
 use mathlib.Core.Bool.{Bool, true, false, ◌&&◌, cond}
 use Prim.Native.Nat.{ℕ}
@@ -11,7 +11,7 @@ use borrow.Author.Tests.{le-leb}
 use Rattle.numbers.specs.Ops.{f64}
 use Rattle.numbers.specs.Constants.{one}
 use Rattle.settings.specs.declared.Settings.{Settings}
-use Rattle.settings.specs.Settings.{range_of, million, largest, panels_of, centring_of, allowed_of, InRange, FiniteRange, Panels, Allowed, with_panels}
+use Rattle.settings.specs.Settings.{range_of, million, largest, panels_of, allowed_of, InRange, FiniteRange, Panels, Allowed, with_panels}
 use Rattle.settings.proofs.Largest.{finite-most, most-finite}
 
 -- ---- alpha, l1_ratio and tol
@@ -73,19 +73,6 @@ panels-hold st h = go st.lazy h where
       rw (le-leb 1 r p.rows-least, le-leb r 256 p.rows-most, le-leb 1 c p.columns-least, le-leb c 32 p.columns-most) tt
   go false h = tt
 
--- ---- the centring
-
-centring-says : (st : Settings) → T (centring_of st) → st.paper ≡ true → st.normalise ≡ true
-unfolding centring_of
-centring-says st t q = is_true st.normalise (rw q at t)
-
-centring-holds : (st : Settings) → (st.paper ≡ true → st.normalise ≡ true) → T (centring_of st)
-unfolding centring_of
-centring-holds st h = go st.paper h where
-  go : (b : Bool) → (b ≡ true → st.normalise ≡ true) → T (cond b st.normalise true)
-  go true h = rw (h refl) tt
-  go false h = tt
-
 -- ---- all of them
 
 pub allowed-says : (st : Settings) → T (allowed_of st) → Allowed st
@@ -95,8 +82,7 @@ allowed-says st t =
     let ratio = range_of st.l1_ratio one in
     let tol = range_of st.tol largest in
     let most = leb st.max_iter 1000 in
-    let t₅ = and_l (alpha && ratio && tol && most && centring_of st) (panels_of st) t in
-    let t₄ = and_l (alpha && ratio && tol && most) (centring_of st) t₅ in
+    let t₄ = and_l (alpha && ratio && tol && most) (panels_of st) t in
     let t₃ = and_l (alpha && ratio && tol) most t₄ in
     let t₂ = and_l (alpha && ratio) tol t₃ in
     record {
@@ -104,8 +90,7 @@ allowed-says st t =
       ratio = range-says one st.l1_ratio (and_r alpha ratio t₂);
       tol = tolerance-says st.tol (and_r (alpha && ratio) tol t₃);
       max_iter = leb→le st.max_iter 1000 (and_r (alpha && ratio && tol) most t₄);
-      centring = centring-says st (and_r (alpha && ratio && tol && most) (centring_of st) t₅);
-      panels = panels-say st (and_r (alpha && ratio && tol && most && centring_of st) (panels_of st) t);
+      panels = panels-say st (and_r (alpha && ratio && tol && most) (panels_of st) t);
     }
 
 -- and the other way, for a tol that is an f64: nothing else is asked
@@ -117,7 +102,6 @@ allowed-when st f h =
       is_true (range_of st.l1_ratio one) (range-holds h.ratio),
       is_true (range_of st.tol largest) (tolerance-holds f h.tol),
       le-leb st.max_iter 1000 h.max_iter,
-      is_true (centring_of st) (centring-holds st h.centring),
       is_true (panels_of st) (panels-hold st h.panels),
     ) tt
 
@@ -134,9 +118,5 @@ nan-refused st n = is_false (allowed_of st) (not_T (allowed_of st) (λ t. go n (
 
 -- where not lazy R and C do not matter
 pub panels-not-looked-at : (st : Settings) (R C : ℕ) → st.lazy ≡ false → allowed_of (with_panels R C st) ≡ allowed_of st
-unfolding allowed_of centring_of panels_of
+unfolding allowed_of panels_of
 panels-not-looked-at st R C e = rw e
-
--- the paper's centring without normalising is refused
-pub paper-needs-normalise : (st : Settings) → st.paper ≡ true → st.normalise ≡ false → allowed_of st ≡ false
-paper-needs-normalise st c u = is_false (allowed_of st) (not_T (allowed_of st) (λ t. subst T (sym ((allowed-says st t).centring c) ∙ u) tt))

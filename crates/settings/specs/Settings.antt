@@ -19,10 +19,6 @@ unfoldable pub panels_of : Settings → Bool
 panels_of st =
     cond st.lazy (leb 1 st.panel_rows && leb st.panel_rows 256 && leb 1 st.panel_cols && leb st.panel_cols 32) true
 
--- the paper's centring is for normalised fits alone
-unfoldable pub centring_of : Settings → Bool
-centring_of st = cond st.paper st.normalise true
-
 abbrev pub million : Float
 million = f64 0x412e_8480_0000_0000
 
@@ -32,7 +28,7 @@ largest = f64 0x7fef_ffff_ffff_ffff
 
 unfoldable pub allowed_of : Settings → Bool
 allowed_of st =
-    range_of st.alpha million && range_of st.l1_ratio one && range_of st.tol largest && leb st.max_iter 1000 && centring_of st && panels_of st
+    range_of st.alpha million && range_of st.l1_ratio one && range_of st.tol largest && leb st.max_iter 1000 && panels_of st
 
 -- ---- the same in 01's words, as what holds and not as a test
 
@@ -61,7 +57,6 @@ pub record Allowed (st : Settings) : Type 0 where
   pub ratio : InRange one st.l1_ratio
   pub tol : FiniteRange st.tol
   pub max_iter : st.max_iter ≤ 1000
-  pub centring : st.paper ≡ true → st.normalise ≡ true
   pub panels : st.lazy ≡ true → Panels st
 
 -- the same settings with another R and C
@@ -75,7 +70,6 @@ with_panels R C st = record {
   panel_cols = C;
   normalise = st.normalise;
   lazy = st.lazy;
-  paper = st.paper;
 }
 
 -- l1_reg, l2_reg
@@ -91,4 +85,4 @@ gamma_of l2 = one ⊘ root_of (one ⊕ l2)
 unfoldable pub terms_of : Settings → ℕ → Terms
 terms_of st n =
     let gamma = gamma_of (l2_of st n) in
-    record { gamma = gamma; padding = gamma ⊗ root_of (l2_of st n); lambda = maximum_of (l1_of st n ⊗ gamma) epsilon; paper = st.paper }
+    record { gamma = gamma; padding = gamma ⊗ root_of (l2_of st n); lambda = maximum_of (l1_of st n ⊗ gamma) epsilon }

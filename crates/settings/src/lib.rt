@@ -1,6 +1,6 @@
 // The settings of a fit as one record, their check, and what follows from them.
 ghost use Rattle.std.specs.Prelude.{◌≡◌, ◌<◌, ◌^◌};
-ghost use Rattle.settings.specs.Settings.{allowed_of, panels_of, centring_of, range_of, gamma_of, terms_of};
+ghost use Rattle.settings.specs.Settings.{allowed_of, panels_of, range_of, gamma_of, terms_of};
 
 use arrays::sums::float_of;
 use numbers::order::maximum;
@@ -18,17 +18,14 @@ pub struct Settings {
     pub panel_cols: usize,
     pub normalise: bool,
     pub lazy: bool,
-    // the scores are centred as in Zou and Hastie's paper, before the zeros are appended; only where `normalise`
-    pub paper: bool,
 }
 
-// What a fit takes from its settings and its number of rows, all that a start and a step need.
+// What a fit takes from its settings and its number of rows.
 #[derive(Drop)]
 pub struct Terms {
     pub gamma: f64,
     pub padding: f64,
     pub lambda: f64,
-    pub paper: bool,
 }
 
 // Whether each setting is in its range; a NaN never is. Refusal 3 where not.
@@ -47,9 +44,6 @@ pub fn allowed(st: Settings) -> bool
     if st.max_iter > 1000 {
         return false;
     }
-    if !centring(st) {
-        return false;
-    }
     panels(st)
 }
 
@@ -58,13 +52,6 @@ fn within(x: f64, most: f64) -> bool
     ensures { result ≡ range_of x most }
 {
     if x >= 0.0 { x <= most } else { false }
-}
-
-// The paper's centring is for normalised fits alone.
-fn centring(st: Settings) -> bool
-    ensures { result ≡ centring_of st }
-{
-    if st.paper { st.normalise } else { true }
 }
 
 // R and C have ranges only where the fit is lazy.
@@ -106,6 +93,5 @@ pub fn terms_of(st: Settings, n: usize) -> Terms
         gamma: g,
         padding: g * root(l2),
         lambda: maximum(l1 * g, 2.220446049250313e-16),
-        paper: st.paper,
     }
 }

@@ -1,32 +1,29 @@
--- Sheets that are not of version 2, and whose flags are neither 5 nor 7, have the outcomes that they had while there was version 1 alone: the former definitions
--- are the old texts, and where those did not change the present ones. Assumes nothing.
+-- Sheets that are not of version 2 have the outcomes that they had while there was version 1 alone: the former definitions are the old texts, and where those
+-- did not change the present ones. Assumes nothing.
 use mathlib.Core.Path.{◌≡◌, refl, sym, ◌∙◌}
-use mathlib.Core.Bool.{Bool, true, false, ◌&&◌, cond}
+use mathlib.Core.Bool.{Bool, true, ◌&&◌, cond}
 use mathlib.Core.List.{List, [], ◌∷◌, ◌++◌}
-use Prim.Native.Nat.{ℕ, zero, suc, ◌+◌, ◌/◌, ◌%◌, ◌≤◌, ◌<◌}
+use Prim.Native.Nat.{ℕ, zero, suc, ◌+◌, ◌%◌, ◌≤◌, ◌<◌}
 use native.Mathlib.Decide.{ℕ_discrete, dec_lt}
 use native.Mathlib.Omega.{arith}
 use lib.Dec.{leb, eqb}
 use lib.ListN.{length, get_or, drop, length-drop}
 use lib.Ieee.{Float}
-use borrow.Author.Tests.{leb-true, le-leb, lt-leb, eq-eqb, ne_eqb}
+use borrow.Author.Tests.{leb-true, lt-leb, eq-eqb, ne_eqb}
 use Rattle.arrays.specs.Part.{tab}
 use Rattle.matrices.specs.Grid.{grid}
 use Rattle.refusal.specs.declared.Refusal.TheVariants.{Version, SheetLength, Flags, Claim, Pair}
 use Rattle.refusal.specs.declared.Checked.{Checked}
-use Rattle.refusal.specs.declared.Checked.TheVariants.{Fine, Bad}
+use Rattle.refusal.specs.declared.Checked.TheVariants.{Fine}
 use Rattle.refusal.specs.Checks.{ask}
-use Rattle.refusal.proofs.Asking.{refuted, both_true, ask-fine}
+use Rattle.refusal.proofs.Asking.{refuted, both_true}
 use Rattle.big_endian.specs.Bytes.{four_bytes}
 use Rattle.sheet_front.specs.Front.{version_of, rest_of, body_of}
 use Rattle.sheet_header.specs.declared.Header.{Header}
 use Rattle.sheet_header.specs.declared.Read.{Read}
 use Rattle.sheet_header.specs.declared.Read.TheVariants.{Sheet, Refused}
-use Rattle.sheet_header.specs.Flags.{flags_fine, lazy_in, paper_in}
 use Rattle.sheet_header.specs.Header.{n_of, p_of, alpha_of, ratio_of, tol_of, max_iter_of, flags_of, row_at}
 use Rattle.sheet_header.specs.Header.{body_check, header_of, accept_check, header_check, read_by, header_read}
-use Rattle.sheet_header.proofs.Flags.{flags-as-before}
-use Rattle.sheet_header.proofs.Passed.{accepted}
 use Rattle.sheet.specs.Rows.{source_of, target_of, feature_of, score_bits, score_of, cancelled, claims_fine, above, room_check}
 use Rattle.sheet.specs.Rows.{left_of, remaining, rises, pairs_from, rows_from, matrix_of, targets_of}
 use Rattle.sheet.specs.Sheet.{body_rows, rows_read, Outcome, Outcome.outcome, by_check, body_read, by_count, sheet_of}
@@ -51,7 +48,6 @@ former_header_of b n R C = record {
     panel_cols = C;
     normalise = eqb (flags_of b % 2) 1;
     lazy = leb 2 (flags_of b);
-    paper = false;
   };
 }
 
@@ -120,41 +116,14 @@ former_sheet b R C x y = former_by_count (former_rows b R C) (former_body_of b) 
 
 -- ---- a body is read as it was
 
--- the flags are not those that were refused then and pass now
-pub record Former (b : List ℕ) : Type 0 where
-  pub neither-5 : flags_of (body_of b) ≡ 5 → ⊥
-  pub neither-7 : flags_of (body_of b) ≡ 7 → ⊥
-
--- 2 or 3 say lazy, as the old test says
-lazy-then : (f : ℕ) → f ≤ 3 → lazy_in f ≡ leb 2 f
-lazy-then f h = go (dec_lt f 2) where
-  go : Dec (f < 2) → lazy_in f ≡ leb 2 f
-  go (yes l) = ne_eqb _ 1 (λ (e : f / 2 % 2 ≡ 1). omega (arith, l, e)) ∙ sym (lt-leb 2 f l)
-  go (no l) = eq-eqb (f / 2 % 2) 1 (omega (arith, h, l)) ∙ sym (le-leb 2 f (omega (arith, l)))
-
-no-paper : (f : ℕ) → f ≤ 3 → paper_in f ≡ false
-no-paper f h = ne_eqb _ 1 (λ (e : f / 4 % 2 ≡ 1). omega (arith, h, e))
-
--- what is read behind a check need only be the same where the check is passed
-read_alike : (k : Checked) {o q : Read} → (k ≡ Fine → o ≡ q) → read_by k o ≡ read_by k q
-read_alike Fine h = h refl
-read_alike (Bad r) h = refl
-
 module _ (b : List ℕ) where
-  module _ (e : flags_fine (flags_of b) ≡ leb (flags_of b) 3) where
-    same-body-check : body_check b ≡ former_body_check b
-    unfolding body_check
-    same-body-check = rw e
+  same-body-check : body_check b ≡ former_body_check b
+  unfolding body_check
+  same-body-check = refl
 
-    few-flags : body_check b ≡ Fine → flags_of b ≤ 3
-    unfolding body_check
-    few-flags c =
-        let laid = ask-fine (eqb (length b) (row_at (p_of b) (n_of b))) SheetLength _ c in
-        leb-true _ _ (sym e ∙ (ask-fine (flags_fine (flags_of b)) Flags Fine laid.1).0)
-
-  same-header : (n R C : ℕ) → flags_of b ≤ 3 → header_of b n R C ≡ former_header_of b n R C
+  same-header : (n R C : ℕ) → header_of b n R C ≡ former_header_of b n R C
   unfolding header_of
-  same-header n R C h = rw (lazy-then (flags_of b) h, no-paper (flags_of b) h)
+  same-header n R C = refl
 
   module _ (p : ℕ) where
     same-remaining : (n : ℕ) → remaining b p n ≡ former_remaining b p n
@@ -171,9 +140,9 @@ module _ (b : List ℕ) where
     same_rows zero i = refl
     same_rows (suc left) i = rw (same-rises i, same_rows left (i + 1))
 
-  same-body-rows : (R C : ℕ) → flags_of b ≤ 3 → body_rows b R C ≡ former_body_rows b R C
+  same-body-rows : (R C : ℕ) → body_rows b R C ≡ former_body_rows b R C
   unfolding body_rows
-  same-body-rows R C h = rw (same_rows (p_of b) (n_of b) 0, same-remaining (p_of b) (n_of b), same-header (former_remains b) R C h)
+  same-body-rows R C = rw (same_rows (p_of b) (n_of b) 0, same-remaining (p_of b) (n_of b), same-header (former_remains b) R C)
 
   same-by-count : (o : Read) (x y : List Float) → by_count o b x y ≡ former_by_count o b x y
   unfolding body_read matrix_of targets_of
@@ -192,7 +161,7 @@ version-test v h = go (ℕ_discrete v 1) where
       n (omega (arith, h, leb-true 1 v u.0, leb-true v 2 u.1)))
       ∙ sym (ne_eqb v 1 n)
 
-module _ (b : List ℕ) (h : version_of b ≡ 2 → ⊥) (former : Former b) where
+module _ (b : List ℕ) (h : version_of b ≡ 2 → ⊥) where
   body : body_of b ≡ drop 5 b
   body = rw (ne_eqb (version_of b) 2 h)
 
@@ -204,28 +173,21 @@ module _ (b : List ℕ) (h : version_of b ≡ 2 → ⊥) (former : Former b) whe
         eq-eqb _ _ e ∙ sym (eq-eqb _ _ q)
     go (no n) = ne_eqb _ _ n ∙ sym (ne_eqb _ _ (λ (q : rest_of b ≡ length (drop 5 b)). n (omega (arith, l, q, length-drop 5 b))))
 
-  same_flags : flags_fine (flags_of (body_of b)) ≡ leb (flags_of (body_of b)) 3
-  same_flags = flags-as-before (flags_of (body_of b)) former.neither-5 former.neither-7
-
   same_check : header_check b ≡ former_check b
   unfolding accept_check
   same_check = go (dec_lt (length b) 5) where
     go : Dec (length b < 5) → header_check b ≡ former_check b
     go (yes l) = rw (lt-leb 5 (length b) l)
-    go (no n) = rw (version-test (version_of b) h, rest-test (omega (arith, n)), same-body-check (body_of b) same_flags, body)
-
-  few : header_check b ≡ Fine → flags_of (body_of b) ≤ 3
-  few e = few-flags (body_of b) same_flags (accepted 1 2 b e).body
+    go (no n) = rw (body, version-test (version_of b) h, rest-test (omega (arith, n)), same-body-check (drop 5 b))
 
   module _ (R C : ℕ) where
     pub header-1-as-before : header_read b R C ≡ former_header b R C
     unfolding header_read
-    header-1-as-before =
-        rw (← same_check) (read_alike (header_check b) (λ (e : header_check b ≡ Fine). rw (same-header (body_of b) (n_of (body_of b)) R C (few e), body)))
+    header-1-as-before = rw (same_check, body, same-header (drop 5 b) (n_of (drop 5 b)) R C)
 
     pub rows-1-as-before : rows_read b R C ≡ former_rows b R C
     unfolding rows_read
-    rows-1-as-before = rw (← same_check) (read_alike (header_check b) (λ (e : header_check b ≡ Fine). rw (same-body-rows (body_of b) R C (few e), body)))
+    rows-1-as-before = rw (same_check, body, same-body-rows (drop 5 b) R C)
 
     pub version-1-as-before : (x y : List Float) → sheet_of b R C x y ≡ former_sheet b R C x y
     unfolding sheet_of

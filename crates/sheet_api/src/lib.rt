@@ -28,7 +28,7 @@ fn refuse(bytes: &[u8], rows: usize, cols: usize, place: &mut [u64]) -> u64
     answer_read(o, place)
 }
 
-// The header of a sheet, as eleven words; its n counts all rows, cancelled ones too. A refusal leaves them as they were.
+// The header of a sheet, as ten words; its n counts all rows, cancelled ones too. A refusal leaves them as they were.
 #[unsafe(no_mangle)]
 pub extern "C" fn xangoravit_read_header(
     bytes: &[u8],
@@ -64,7 +64,7 @@ pub extern "C" fn xangoravit_count_rows(
     tell(o, header, place)
 }
 
-// A sheet into x and y, its header as eleven words, and the place of a refusal as one. A refusal leaves all but the place as it was.
+// A sheet into x and y, its header as ten words, and the place of a refusal as one. A refusal leaves all but the place as it was.
 #[unsafe(no_mangle)]
 pub extern "C" fn xangoravit_read_sheet(
     bytes: &[u8],

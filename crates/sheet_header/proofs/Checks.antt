@@ -14,9 +14,7 @@ use Rattle.refusal.specs.declared.Checked.TheVariants.{Fine, Bad}
 use Rattle.refusal.specs.Checks.{ask}
 use Rattle.refusal.proofs.Asking.{refuted, known_by, both_true}
 use Rattle.sheet_front.specs.Front.{version_of, rest_of, body_at, body_of}
-use Rattle.sheet_header.specs.Flags.{flags_fine}
 use Rattle.sheet_header.specs.Header.{row-bytes, row_at, n_of, p_of, flags_of, body_check, accept_check}
-use Rattle.sheet_header.proofs.Flags.{Flagged, flagged-of, flagged-good}
 
 -- 11: the version is from `first` to `last`; a reader takes 1 and 2
 pub record VersionIn (first last : ℕ) (b : List ℕ) : Type 0 where
@@ -37,7 +35,7 @@ pub record HeadedIn (first last : ℕ) (b : List ℕ) : Type 0 where
   pub begun : 5 ≤ length b
   pub version : VersionIn first last b
   pub measured : Measured b
-  pub flags : Flagged (flags_of (body_of b))
+  pub flags : flags_of (body_of b) ≤ 3
 
 abbrev pub Headed : List ℕ → Type 0
 Headed b = HeadedIn 1 2 b
@@ -108,11 +106,11 @@ module _ (first last : ℕ) (b : List ℕ) where
       unfolding accept_check body_check
       bad-measure h = rw (le-leb 5 (length b) begun, version-good version) (length-refused (field-test b) (rows-test b) _ (λ t. h (measured-of b t)))
 
-      pub bad-flags : Measured b → (Flagged (flags_of (body_of b)) → ⊥) → accept_check first last b ≡ Bad Flags
+      pub bad-flags : Measured b → 3 < flags_of (body_of b) → accept_check first last b ≡ Bad Flags
       unfolding accept_check body_check
       bad-flags m h =
           let t = measured-good b m in
-          rw (le-leb 5 (length b) begun, version-good version, t.0, t.1, refuted (flags_fine (flags_of (body_of b))) (λ f. h (flagged-of _ f)))
+          rw (le-leb 5 (length b) begun, version-good version, t.0, t.1, lt-leb (flags_of (body_of b)) 3 h)
 
   pub bad-start : length b < 5 → accept_check first last b ≡ Bad SheetLength
   unfolding accept_check
@@ -122,4 +120,4 @@ module _ (first last : ℕ) (b : List ℕ) where
   unfolding accept_check body_check
   good-header h =
       let t = measured-good b h.measured in
-      rw (le-leb 5 (length b) h.begun, version-good h.version, t.0, t.1, flagged-good (flags_of (body_of b)) h.flags)
+      rw (le-leb 5 (length b) h.begun, version-good h.version, t.0, t.1, le-leb (flags_of (body_of b)) 3 h.flags)

@@ -14,7 +14,6 @@ use Rattle.sheet_front.specs.Front.{body_of}
 use Rattle.sheet_header.specs.declared.Read.{Read}
 use Rattle.sheet_header.specs.declared.Read.TheVariants.{Sheet}
 use Rattle.sheet_header.specs.Header.{n_of, flags_of, header_of, accept_check, header_check, header_read, Said.refused, said}
-use Rattle.sheet_header.proofs.Flags.{Flagged, flagged-known}
 use Rattle.sheet_header.proofs.Checks.{VersionIn, Measured, HeadedIn, Headed, version-known, measured-known}
 use Rattle.sheet_header.proofs.Checks.{bad-start, bad-version, bad-measure, bad-flags, good-header}
 use Rattle.sheet_header.proofs.Outcomes.{header_refused}
@@ -28,7 +27,7 @@ module _ (first last : ℕ) (b : List ℕ) where
     short : length b < 5 → HeaderRefusalIn 12 0
     version : 5 ≤ length b → (VersionIn first last b → ⊥) → HeaderRefusalIn 11 0
     measure : 5 ≤ length b → VersionIn first last b → (Measured b → ⊥) → HeaderRefusalIn 12 0
-    flags : 5 ≤ length b → VersionIn first last b → Measured b → (Flagged (flags_of (body_of b)) → ⊥) → HeaderRefusalIn 13 0
+    flags : 5 ≤ length b → VersionIn first last b → Measured b → 3 < flags_of (body_of b) → HeaderRefusalIn 13 0
 
   pub header-told : {k i : ℕ} → HeaderRefusalIn k i → (q : Refusal) × (accept_check first last b ≡ Bad q) × (number_of q ≡ k) × (place_of q ≡ i)
   header-told (short h) = (SheetLength, bad-start first last b h, refl, refl)
@@ -42,12 +41,12 @@ module _ (first last : ℕ) (b : List ℕ) where
   -- every sheet is in one row of the table, or in none
   pub every-header : HeadedIn first last b ⊎ ((k : ℕ) × (i : ℕ) × HeaderRefusalIn k i)
   every-header = begins (dec_lt (length b) 5) where
-    flagged : 5 ≤ length b → VersionIn first last b → Measured b → Dec (Flagged (flags_of (body_of b))) → Told
-    flagged s v m (yes g) = inl (record { begun = s; version = v; measured = m; flags = g })
-    flagged s v m (no g) = inr (13, 0, flags s v m g)
+    flagged : 5 ≤ length b → VersionIn first last b → Measured b → Dec (3 < flags_of (body_of b)) → Told
+    flagged s v m (yes g) = inr (13, 0, flags s v m g)
+    flagged s v m (no g) = inl (record { begun = s; version = v; measured = m; flags = omega (arith, g) })
 
     measures : 5 ≤ length b → VersionIn first last b → Dec (Measured b) → Told
-    measures s v (yes m) = flagged s v m (flagged-known (flags_of (body_of b)))
+    measures s v (yes m) = flagged s v m (dec_lt 3 (flags_of (body_of b)))
     measures s v (no m) = inr (12, 0, measure s v m)
 
     versions : 5 ≤ length b → Dec (VersionIn first last b) → Told

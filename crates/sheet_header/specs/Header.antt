@@ -10,7 +10,7 @@ use Rattle.sheet_front.specs.Front.{version_of, rest_of, body_of}
 use Rattle.sheet_header.specs.declared.Header.{Header}
 use Rattle.sheet_header.specs.declared.Read.{Read}
 use Rattle.sheet_header.specs.declared.Read.TheVariants.{Sheet, Refused}
-use Rattle.sheet_header.specs.Flags.{flags_fine, normalise_in, lazy_in, paper_in}
+use Rattle.sheet_header.specs.Flags.{flags_fine, normalise_in, lazy_in}
 
 -- ---- a body, which is the same in both versions
 -- n from 0, p from 2, alpha from 4, l1_ratio from 12, tol from 20, M from 28, flags at 32, the rows from 33
@@ -64,7 +64,6 @@ header_of b n R C = record {
     panel_cols = C;
     normalise = normalise_in (flags_of b);
     lazy = lazy_in (flags_of b);
-    paper = paper_in (flags_of b);
   };
 }
 

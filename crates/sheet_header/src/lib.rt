@@ -105,26 +105,18 @@ pub fn row_at(p: usize, i: usize) -> usize
     ROWS_AT + i * (12 + 8 * p)
 }
 
-// ---- the flags, both ways: 1 says normalise, 2 lazy, 4 paper
+// ---- the flags, both ways: 1 says normalise, 2 lazy
 
-// No flag but these, and 4 only beside 1.
 fn flags_fine(flags: u8) -> bool
     ensures { result ≡ flags_fine flags }
 {
-    if flags > 7 {
-        return false;
-    }
-    if flags / 4 % 2 == 1 {
-        flags % 2 == 1
-    } else {
-        true
-    }
+    flags <= 3
 }
 
 pub fn flags_for(st: Settings) -> u8
     ensures { result ≡ flags_for st }
 {
-    flag(st.normalise, 1) + flag(st.lazy, 2) + flag(st.paper, 4)
+    flag(st.normalise, 1) + flag(st.lazy, 2)
 }
 
 fn flag(set: bool, worth: u8) -> u8
@@ -149,8 +141,7 @@ pub fn header_of(b: &[u8], n: usize, rows: usize, cols: usize) -> Header
         panel_rows: rows,
         panel_cols: cols,
         normalise: flags % 2 == 1,
-        lazy: flags / 2 % 2 == 1,
-        paper: flags / 4 % 2 == 1,
+        lazy: flags >= 2,
     };
     Header {
         n,

@@ -20,7 +20,7 @@ use Rattle.matrices.proofs.Lengths.{row_room}
 use Rattle.refusal.specs.declared.Refusal.TheVariants.{Size}
 use Rattle.refusal.specs.declared.Checked.TheVariants.{Fine}
 use Rattle.refusal.proofs.Sizes.{InSize}
-use Rattle.settings.specs.Settings.{Allowed, with_panels}
+use Rattle.settings.specs.Settings.{with_panels}
 use Rattle.settings.proofs.Laws.{allowed-says}
 use Rattle.big_endian.specs.Bytes.{big_endian, float_at, bytes_of, float_bytes}
 use Rattle.big_endian.proofs.Bytes.{length-bytes, same_bytes, in-front, number-back}
@@ -31,7 +31,7 @@ use Rattle.sheet_front.proofs.Front.{sheet-long, body_back, version-number, vers
 use Rattle.sheet_header.specs.Flags.{flags_for}
 use Rattle.sheet_header.specs.declared.Read.TheVariants.{Sheet, Refused}
 use Rattle.sheet_header.specs.Header.{row-bytes, row_at, n_of, p_of, max_iter_of, flags_of, body_check, header_of, accept_check, header_check}
-use Rattle.sheet_header.proofs.Flags.{flags-back, flags-fine}
+use Rattle.sheet_header.proofs.Flags.{flags-back}
 use Rattle.sheet_header.proofs.Passed.{accept-fine}
 use Rattle.sheet.specs.Rows.{source_of, target_of, feature_of, score_bits, score_of, left_of, remaining}
 use Rattle.sheet.specs.Rows.{rows_from, matrix_of, targets_of}
@@ -213,15 +213,14 @@ module _ (g : Given) where
     pub p_back : p_of d ≡ g.p
     p_back = number-there d 2 2 g.p end-4 (omega (arith, (passed g ok).size.columns)) from-2
 
-    settings-in : Allowed g.settings
-    settings-in = allowed-says g.settings (rw (passed g ok).settings tt)
-
     rounds-back : max_iter_of d ≡ g.settings.max_iter
-    rounds-back = number-there d 28 4 g.settings.max_iter (flags_for g.settings ∷ rows) (omega (arith, settings-in.max_iter)) from-28
+    rounds-back =
+        let a = allowed-says g.settings (rw (passed g ok).settings tt) in
+        number-there d 28 4 g.settings.max_iter (flags_for g.settings ∷ rows) (omega (arith, a.max_iter)) from-28
 
     body-fine : body_check d ≡ Fine
     unfolding body_check
-    body-fine = rw (n-back, p_back, flags-there, eq-eqb (length d) (row_at g.p g.n) (body-long g), flags-fine g.settings settings-in.centring)
+    body-fine = rw (n-back, p_back, flags-there, eq-eqb (length d) (row_at g.p g.n) (body-long g), (flags-back g.settings).0)
 
     -- ---- its rows
 
@@ -278,7 +277,7 @@ module _ (g : Given) where
           let alpha = float-there d 4 g.settings.alpha end-12 D.alpha from-4 in
           let ratio = float-there d 12 g.settings.l1_ratio end-20 D.ratio from-12 in
           let tol = float-there d 20 g.settings.tol end-28 D.tol from-20 in
-          rw (p_back, alpha, ratio, tol, rounds-back, flags-there, f.0, f.1, f.2)
+          rw (p_back, alpha, ratio, tol, rounds-back, flags-there, f.1, f.2)
 
       module _ (i : ℕ) (h : i < g.n) where
         score-bits-back : score_bits d g.p i ≡ to_bits binary64 (g.y ! i)

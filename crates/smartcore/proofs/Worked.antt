@@ -21,7 +21,7 @@ use Rattle.design.specs.Eager.{design_of, gram_of}
 use Rattle.smartcore.specs.BgSolver.{loop, solve_mut}
 use Rattle.smartcore.specs.LassoOptimizer.{Counts, Fitted, converged, Point, Vars, Next, on, out}
 use Rattle.smartcore.specs.LassoOptimizer.{self_of, mat_vec_mul, solve_preconditioner, sumlogneg, search, round, rounds, optimize}
-use Rattle.smartcore.specs.ElasticNet.{centre_y, augment_y, optimize_eager, optimize_fit, rescaled, fit}
+use Rattle.smartcore.specs.ElasticNet.{augment_y, optimize_eager, optimize_fit, rescaled, fit}
 
 -- ---- what is asked
 
@@ -45,7 +45,6 @@ asked R C = record {
   panel_cols = C;
   normalise = false;
   lazy = false;
-  paper = false;
 }
 
 -- openings, rounds of the solver, trials
@@ -91,7 +90,7 @@ before = record {
 
 starts : (R C : ℕ) → optimize_fit 2 1 features scores (asked R C) ≡ rounds_of 10 0 before
 unfolding
-    optimize_fit optimize_eager centre_y augment_y optimize terms_of l1_of l2_of gamma_of design_of gram_of
+    optimize_fit optimize_eager augment_y optimize terms_of l1_of l2_of gamma_of design_of gram_of
     grid tab fold_to part fill_of map_of mean_of sum_of root_of root_bits last reaches count maximum_of minimum_of of_bits to_bits of_int sub mul div
 starts R C = refl
 

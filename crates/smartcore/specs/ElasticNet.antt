@@ -1,7 +1,6 @@
 -- elastic_net.rs: `fit`, from a matrix of n rows and p columns, n targets and settings to the coefficients and the intercept. Its two other ways out, for
--- targets of the wrong length and for a constant column, are 01's refusals 2 and 6, which stand ahead of every fit of ours. Not the Rust's is the choice
--- `paper`: where it stands, the targets are centred before anything is appended, and the optimiser is told not to. Definitions only.
-use Rattle.std.specs.Prelude.{not, cond, List, ◌++◌, ℕ, ◌+◌, Float}
+-- targets of the wrong length and for a constant column, are 01's refusals 2 and 6, which stand ahead of every fit of ours. Definitions only.
+use Rattle.std.specs.Prelude.{true, cond, List, ◌++◌, ℕ, ◌+◌, Float}
 use Rattle.numbers.specs.Ops.{◌⊖◌, ◌⊗◌, ◌⊘◌}
 use Rattle.arrays.specs.Part.{part}
 use Rattle.arrays.specs.Sums.{plus0, mean_of, product_of}
@@ -15,10 +14,6 @@ use Rattle.design.specs.Eager.{design_of, gram_of}
 use Rattle.smartcore.specs.LazyNormalization.{matvec, transpose_matvec}
 use Rattle.smartcore.specs.LassoOptimizer.{Fitted, converged, limit, failed, Point, optimize}
 
--- Zou and Hastie's centring: the n targets less their mean; without that choice the targets as they are
-unfoldable pub centre_y : ℕ → List Float → Settings → List Float
-centre_y n y st = cond st.paper (map_of (λ (v : Float). v ⊖ mean_of n y) n y) y
-
 -- n targets, and p zeros
 unfoldable pub augment_y : ℕ → ℕ → List Float → List Float
 augment_y n p y = part y 0 n ++ fill_of plus0 p
@@ -30,8 +25,8 @@ optimize_eager n p x y st =
     let col_mean = centres_of st.normalise x n p in
     let col_std = scales_of st.normalise x n p in
     let x2 = design_of st.normalise tm n p x col_mean col_std in
-    let y2 = augment_y n p (centre_y n y st) in
-    optimize (gram_of (n + p) p x2) (n + p) p y2 (l1_of st n ⊗ tm.gamma) st.max_iter st.tol (not st.paper) (rows_of x2 (n + p) p) (columns_of x2 (n + p) p)
+    let y2 = augment_y n p y in
+    optimize (gram_of (n + p) p x2) (n + p) p y2 (l1_of st n ⊗ tm.gamma) st.max_iter st.tol true (rows_of x2 (n + p) p) (columns_of x2 (n + p) p)
 
 -- in fit_lazy_coefficients: each product makes the design anew
 unfoldable pub optimize_lazy : ℕ → ℕ → List Float → List Float → Settings → Fitted Point
@@ -39,8 +34,8 @@ optimize_lazy n p x y st =
     let tm = terms_of st n in
     let col_mean = centres_of st.normalise x n p in
     let col_std = scales_of st.normalise x n p in
-    let y2 = augment_y n p (centre_y n y st) in
-    optimize (lazy_gram_of n p tm x col_mean col_std) (n + p) p y2 (l1_of st n ⊗ tm.gamma) st.max_iter st.tol (not st.paper)
+    let y2 = augment_y n p y in
+    optimize (lazy_gram_of n p tm x col_mean col_std) (n + p) p y2 (l1_of st n ⊗ tm.gamma) st.max_iter st.tol true
     (matvec n p tm.gamma tm.padding x col_mean col_std) (transpose_matvec n p tm.gamma tm.padding x col_mean col_std)
 
 -- the weights before they are rescaled

@@ -1,16 +1,12 @@
 -- The unbroken fit over the store is smartcore's. Assumes nothing.
 use mathlib.Core.Path.{◌≡◌, refl, sym, ap, ◌∙◌, fun_ext, subst}
-use mathlib.Core.Bool.{Bool, true, false, not, cond}
-use mathlib.Core.List.{List, ◌++◌}
+use mathlib.Core.Bool.{Bool, true, false, cond}
+use mathlib.Core.List.{List}
 use Prim.Native.Nat.{ℕ, zero, suc, ◌+◌}
 use lib.Ieee.{Float}
 use Rattle.refusal.specs.declared.Failure.{Failure}
 use Rattle.numbers.specs.Ops.{◌⊗◌}
-use Rattle.arrays.specs.Sums.{plus0}
-use Rattle.arrays.specs.Vectors.{fill_of}
-use Rattle.arrays.proofs.Part.{part-all}
-use Rattle.arrays.proofs.Lengths.{length-map}
-use Rattle.matrices.specs.Products.{rows_of, columns_of}
+use Rattle.matrices.specs.Products.{columns_of}
 use Rattle.settings.specs.declared.Settings.{Settings}
 use Rattle.settings.specs.declared.Terms.{Terms}
 use Rattle.settings.specs.Settings.{l1_of, terms_of}
@@ -21,8 +17,8 @@ use Rattle.layout.specs.Slots.{Slot.CENTRE, Slot.SCALE}
 use Rattle.layout.specs.Need.{sizes_of}
 use Rattle.lazy_normalization.specs.Lazy.{lazy_rows, lazy_columns, recip_store}
 use Rattle.lazy_gram.specs.Gram.{lazy_gram_of, lazy_gram_store}
-use Rattle.design.specs.Statistics.{centres_of, scales_of, statistics_store, less_mean, centred_of, targets_store}
-use Rattle.design.specs.Eager.{design_of, gram_of, design_store, gram_store}
+use Rattle.design.specs.Statistics.{centres_of, scales_of, statistics_store, centred_of, targets_store}
+use Rattle.design.specs.Eager.{design_store, gram_store}
 use Rattle.design_products.specs.Mode.{matvec_of, transposed_of}
 use Rattle.newton.specs.Newton.{start_t}
 use Rattle.pause.specs.Progress.{Progress, then}
@@ -32,8 +28,8 @@ use Rattle.lasso_optimizer.specs.Data.{Data, held, store_of}
 use Rattle.lasso_optimizer.specs.Fit.{parts, fresh, optimized}
 use Rattle.beginning.specs.Start.{blank_store, prepared_store, start_store}
 use Rattle.smartcore.specs.LassoOptimizer.{Fitted, Point, Vars, Next, on, out, rounds, optimize}
-use Rattle.smartcore.specs.ElasticNet.{centre_y, augment_y, optimize_eager, optimize_lazy, optimize_fit}
-use Rattle.smartcore.specs.LazyNormalization.{matvec, transpose_matvec}
+use Rattle.smartcore.specs.ElasticNet.{augment_y, optimize_eager, optimize_lazy, optimize_fit}
+use Rattle.smartcore.specs.LazyNormalization.{matvec}
 use Rattle.smartcore.proofs.Reciprocal.{reciprocals, rows_are, columns-are}
 use Rattle.unbroken_fit.specs.Unbroken.{fit_of, counts_of, point_of, told}
 use Rattle.unbroken_fit.proofs.Solver.{Fixed, fixed_in}
@@ -73,9 +69,9 @@ module _ (sh : Sizes) (tm : Terms) (tol : Float) (m : List Float) where
       then_is (fixed_in v) f (r + 1) (rounds-are f (r + 1)) (one_round (parts sh tm tol m) r (reached c (held a v))) (round_in sh tm tol m r c a v) (round_is sh tm tol m r c a v)
 
   pub optimized-is : (M : ℕ) (v : Store)
-      → Ends (fixed_in v) (optimized sh tm tol m M v) (rounds_at sh.lazy (fixed_in v) M 0 (vars_of none (held (fresh sh.p tm) v)))
+      → Ends (fixed_in v) (optimized sh tm tol m M v) (rounds_at sh.lazy (fixed_in v) M 0 (vars_of none (held (fresh sh.p tm.lambda) v)))
   unfolding optimized unbroken
-  optimized-is M v = rounds-are M 0 none (held (fresh sh.p tm) v)
+  optimized-is M v = rounds-are M 0 none (held (fresh sh.p tm.lambda) v)
 
 -- ---- from a fresh start
 
@@ -100,29 +96,12 @@ module _ (n p : ℕ) (x y : List Float) (st : Settings) where
     pub centres : last_in u CENTRE ≡ centres_of st.normalise x n p
     pub scales : last_in u SCALE ≡ scales_of st.normalise x n p
 
-  -- the optimiser with this Gram and these products, on targets that are centred already
-  abbrev optimize_by : List Float → (List Float → List Float) → (List Float → List Float) → Fitted Point
-  optimize_by ata f g = optimize ata (n + p) p (centred_of st.paper n p y) (l1_of st n ⊗ (terms_of st n).gamma) st.max_iter st.tol false f g
-
-  -- centred before the zeros are appended or by the optimiser, they are the start's
-  centred-already : (ata : List Float) (f g : List Float → List Float)
-      → optimize ata (n + p) p (augment_y n p (centre_y n y st)) (l1_of st n ⊗ (terms_of st n).gamma) st.max_iter st.tol (not st.paper) f g ≡ optimize_by ata f g
-  unfolding optimize centre_y augment_y centred_of
-  centred-already ata f g = go st.paper where
-    l : Float
-    l = l1_of st n ⊗ (terms_of st n).gamma
-
-    go : (b : Bool)
-        → optimize ata (n + p) p (augment_y n p (cond b (less_mean n y) y)) l st.max_iter st.tol (not b) f g
-        ≡ optimize ata (n + p) p (centred_of b n p y) l st.max_iter st.tol false f g
-    go true =
-        ap (λ (ys : List Float). optimize ata (n + p) p (ys ++ fill_of plus0 p) l st.max_iter st.tol false f g)
-        (part-all (less_mean n y) n (length-map _ n y))
-    go false = refl
-
   -- a lazy fit by these products
   abbrev lazy_by : (List Float → List Float) → (List Float → List Float) → Fitted Point
-  lazy_by = optimize_by (lazy_gram_of n p (terms_of st n) x (centres_of st.normalise x n p) (scales_of st.normalise x n p))
+  lazy_by f g =
+      let tm = terms_of st n in
+      optimize (lazy_gram_of n p tm x (centres_of st.normalise x n p) (scales_of st.normalise x n p)) (n + p) p (augment_y n p y) (l1_of st n ⊗ tm.gamma) st.max_iter
+      st.tol true f g
 
   abbrev lazy_in : Fitted Point
   lazy_in =
@@ -132,7 +111,7 @@ module _ (n p : ℕ) (x y : List Float) (st : Settings) where
       lazy_by (lazy_rows n p tm x ce sc (reciprocals n p tm x ce sc)) (lazy_columns n p tm x ce sc (reciprocals n p tm x ce sc))
 
   stored_is : Fits (end_with lazy_sizes) lazy_in
-  unfolding start_store prepared_store lazy_gram_store recip_store targets_store statistics_store blank_store fresh start_t terms_of counts_of optimize ◌⟨◌≔◌⟩ upd
+  unfolding start_store prepared_store lazy_gram_store recip_store targets_store statistics_store blank_store fresh start_t terms_of centred_of counts_of augment_y optimize ◌⟨◌≔◌⟩ upd
   stored_is =
       let h = optimized-is lazy_sizes (terms_of st n) st.tol x st.max_iter (start_store lazy_sizes st.normalise (terms_of st n) x y) in
       record { says = h.says; centres = ap (λ (f : Fixed). f.centre) h.same; scales = ap (λ (f : Fixed). f.scale) h.same }
@@ -145,7 +124,6 @@ module _ (n p : ℕ) (x y : List Float) (st : Settings) where
       let tm = terms_of st n in
       ap (λ (f : List Float → List Float). lazy_by f (lazy_columns n p tm x ce sc (reciprocals n p tm x ce sc))) (fun_ext (rows_are n p tm x ce sc))
       ∙ ap (lazy_by (matvec n p tm.gamma tm.padding x ce sc)) (fun_ext (columns-are n p tm x ce sc))
-      ∙ sym (centred-already (lazy_gram_of n p tm x ce sc) (matvec n p tm.gamma tm.padding x ce sc) (transpose_matvec n p tm.gamma tm.padding x ce sc))
 
   lazy-is : Fits (end_with lazy_sizes) (optimize_lazy n p x y st)
   lazy-is = subst (Fits (end_with lazy_sizes)) by-products stored_is
@@ -154,30 +132,22 @@ module _ (n p : ℕ) (x y : List Float) (st : Settings) where
   eager_start =
       let sh = eager_sizes in
       let tm = terms_of st n in
-      gram_store sh (design_store sh st.normalise tm x (targets_store sh tm y (statistics_store sh st.normalise x (blank_store sh))))
+      gram_store sh (design_store sh st.normalise tm x (targets_store sh y (statistics_store sh st.normalise x (blank_store sh))))
 
   abbrev eager_in : Fitted Point
   eager_in =
       let tm = terms_of st n in
-      rounds_at eager_sizes tm st.tol x false (fixed_in eager_start) st.max_iter 0 (vars_of none (held (fresh p tm) eager_start))
+      rounds_at eager_sizes tm st.tol x false (fixed_in eager_start) st.max_iter 0 (vars_of none (held (fresh p tm.lambda) eager_start))
 
-  -- the design of n + p rows that is stored
-  abbrev stored : List Float
-  stored = design_of st.normalise (terms_of st n) n p x (centres_of st.normalise x n p) (scales_of st.normalise x n p)
-
-  abbrev eager_by : Fitted Point
-  eager_by = optimize_by (gram_of (n + p) p stored) (rows_of stored (n + p) p) (columns_of stored (n + p) p)
-
-  eager-rounds : Ends (fixed_in eager_start) (end_with eager_sizes) eager_in → Fits (end_with eager_sizes) eager_by
-  unfolding gram_store design_store targets_store statistics_store blank_store fresh start_t terms_of counts_of optimize ◌⟨◌≔◌⟩ upd
+  eager-rounds : Ends (fixed_in eager_start) (end_with eager_sizes) eager_in → Fits (end_with eager_sizes) (optimize_eager n p x y st)
+  unfolding gram_store design_store targets_store statistics_store blank_store fresh start_t terms_of centred_of counts_of optimize_eager augment_y optimize ◌⟨◌≔◌⟩ upd
   eager-rounds h = record { says = h.says; centres = ap (λ (f : Fixed). f.centre) h.same; scales = ap (λ (f : Fixed). f.scale) h.same }
 
   eager-is : Fits (end_with eager_sizes) (optimize_eager n p x y st)
-  unfolding start_store prepared_store optimize_eager
+  unfolding start_store prepared_store
   eager-is =
       let tm = terms_of st n in
-      subst (Fits (end_with eager_sizes)) (sym (centred-already (gram_of (n + p) p stored) (rows_of stored (n + p) p) (columns_of stored (n + p) p)))
-      (eager-rounds (optimized-is eager_sizes tm st.tol x st.max_iter (start_store eager_sizes st.normalise tm x y)))
+      eager-rounds (optimized-is eager_sizes tm st.tol x st.max_iter (start_store eager_sizes st.normalise tm x y))
 
   pub fit_is : Fits (fit_of n p x y st) (optimize_fit n p x y st)
   unfolding fit_of optimize_fit sizes_of

@@ -35,7 +35,6 @@ fn settings() -> Settings {
         panel_cols: 32,
         normalise: true,
         lazy: false,
-        paper: false,
     }
 }
 

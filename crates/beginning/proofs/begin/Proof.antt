@@ -23,8 +23,8 @@ len₂ c = c.statistics.auto.1.1.1.0 ∙ c.before.before.before.before.blank.aut
 abbrev from₃ : tie.After-targets → tie.Start
 from₃ c = from₂ c.before.before.before.before
 
-len₃ : (c : tie.After-targets) → length c.targets.new.1.1.1.0 ≡ length (from₃ c).args.s.now
-len₃ c = c.targets.auto.1.1.1.0 ∙ len₂ c.before.before.before.before
+len₃ : (c : tie.After-targets) → length c.targets.new.1.1.0 ≡ length (from₃ c).args.s.now
+len₃ c = c.targets.auto.1.1.0 ∙ len₂ c.before.before.before.before
 
 abbrev from₄ : tie.After-prepare → tie.Start
 from₄ c = from₃ c.before.before.before.before
@@ -77,7 +77,7 @@ returns c =
     let c₁ = c₂.before.before.before.before in
     let g = (from₁ c₁).args in
     let h₂ = next g.sh c₁.blank.ensures (statistics_store g.sh g.normalise g.m.now) c₂.statistics.ensures in
-    let h₃ = next g.sh h₂ (targets_store g.sh g.tm g.y.now) c₃.targets.ensures in
+    let h₃ = next g.sh h₂ (targets_store g.sh g.y.now) c₃.targets.ensures in
     rw c₅.sweep.ensures (next g.sh h₃ (prepared_store g.sh g.normalise g.tm g.m.now) c₄.prepare.ensures)
 
 pub begin-spec : {M : Type 1} → statement M

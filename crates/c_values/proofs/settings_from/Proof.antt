@@ -10,20 +10,17 @@ shared-slice-read-normalise c = omega arith
 shared-slice-read-lazy : tie.Need-shared-slice-read-lazy
 shared-slice-read-lazy c = omega arith
 
-shared-slice-read-paper : tie.Need-shared-slice-read-paper
-shared-slice-read-paper c = omega arith
-
 floats-at-requires : tie.Need-floats-at-requires
 floats-at-requires c κs = omega arith
 
-shared-slice-read-t7 : tie.Need-shared-slice-read-t7
-shared-slice-read-t7 c = omega arith
+shared-slice-read-t6 : tie.Need-shared-slice-read-t6
+shared-slice-read-t6 c = omega arith
 
-shared-slice-read-t12 : tie.Need-shared-slice-read-t12
-shared-slice-read-t12 c = omega arith
+shared-slice-read-t10 : tie.Need-shared-slice-read-t10
+shared-slice-read-t10 c = omega arith
 
-shared-slice-read-t15 : tie.Need-shared-slice-read-t15
-shared-slice-read-t15 c = omega arith
+shared-slice-read-t13 : tie.Need-shared-slice-read-t13
+shared-slice-read-t13 c = omega arith
 
 returns : tie.Need-returns
 unfolding settings_from
@@ -35,9 +32,8 @@ settings-from-spec =
     (tie.spec
     shared-slice-read-normalise
     shared-slice-read-lazy
-    shared-slice-read-paper
     floats-at-requires
-    shared-slice-read-t7
-    shared-slice-read-t12
-    shared-slice-read-t15
+    shared-slice-read-t6
+    shared-slice-read-t10
+    shared-slice-read-t13
     returns)

@@ -6,9 +6,6 @@ use Rattle.c_words.proofs.scalars_from.Tie as tie
 shared-slice-read-missed : tie.Need-shared-slice-read-missed
 shared-slice-read-missed c = omega arith
 
-shared-slice-read-paper : tie.Need-shared-slice-read-paper
-shared-slice-read-paper c = omega arith
-
 floats-at-requires : tie.Need-floats-at-requires
 floats-at-requires c κs = omega arith
 
@@ -26,7 +23,6 @@ scalars-from-spec =
     tie.close
     (tie.spec
     shared-slice-read-missed
-    shared-slice-read-paper
     floats-at-requires
     floats-at-requires-2
     floats-at-requires-3

@@ -1,7 +1,6 @@
 -- `c_words::write_scalars` meets its contract. Assumes nothing.
 use borrow.Author.Rules.{rules}
 use mathlib.Core.Path.{◌∙◌}
-use native.Mathlib.Omega.{arith}
 use lib.ListN.{length-set}
 use Rattle.c_words.proofs.write_scalars.Statement.{statement}
 use Rattle.c_words.proofs.write_scalars.Tie as tie
@@ -21,29 +20,19 @@ truth-word-requires c κs = tt
 slice-write-out : tie.Need-slice-write-out
 slice-write-out c = search rules
 
-truth-word-requires-2 : tie.Need-truth-word-requires-2
-truth-word-requires-2 c κs = tt
-
-slice-write-out-2 : tie.Need-slice-write-out-2
-slice-write-out-2 c =
-    let z = c.before.before.before.before in
-    let y = z.before.before.before.before in
-    let x = y.before.before.before.before in
-    simp length-set (omega (arith, z.write-floats3.auto.1.0, y.write-floats2.auto.1.0, x.write-floats.auto.1.0))
-
 same_length : tie.Need-same-length
 same_length c =
-    let z = c.before.before.before.before in
+    let z = c.before.before.before in
     let y = z.before.before.before.before in
     let x = y.before.before.before.before in
     simp length-set (z.write-floats3.auto.1.0 ∙ y.write-floats2.auto.1.0 ∙ x.write-floats.auto.1.0)
 
 returns : tie.Need-returns
 returns c =
-    let z = c.before.before.before.before in
+    let z = c.before.before.before in
     let y = z.before.before.before.before in
     let x = y.before.before.before.before in
-    rw (z.write-floats3.ensures, y.write-floats2.ensures, x.write-floats.ensures, c.before.truth-word.ensures, c.truth-word2.ensures)
+    rw (z.write-floats3.ensures, y.write-floats2.ensures, x.write-floats.ensures, c.truth-word.ensures)
 
 pub write-scalars-spec : {M : Type 1} → statement M
 write-scalars-spec =
@@ -54,7 +43,5 @@ write-scalars-spec =
     write-floats-requires-3
     truth-word-requires
     slice-write-out
-    truth-word-requires-2
-    slice-write-out-2
     same_length
     returns)

@@ -5,7 +5,7 @@ use native.Mathlib.Omega.{arith}
 use borrow.Author.Rules.{rules}
 use Rattle.design_products.specs.Mode.{Held}
 use Rattle.design_products.proofs.Lengths.{held_on}
-use Rattle.elastic_net.proofs.Calls.{few-rounds, choice-in, small, holds, may-end}
+use Rattle.elastic_net.proofs.Calls.{few-rounds, small, holds, may-end}
 use Rattle.elastic_net.proofs.Ends.{paused, ends}
 use Rattle.elastic_net.proofs.accepted.Statement.{statement}
 use Rattle.elastic_net.proofs.accepted.Tie as tie
@@ -35,10 +35,8 @@ terms-of-requires c κs = omega (arith, c.before.before.before.before.before.bef
 
 go-requires : tie.Need-go-requires
 go-requires c κs =
-    let b = c.before.before.before.before.before.before.before.before in
-    let g = b.args in
-    let a = b.requires in
-    (holds c.before.before.before.sizes-of.ensures c.before.before.place.ensures a.0, (few-rounds a.0, choice-in g.n g.st _ g.rec c.before.terms-of.ensures a.1))
+    let a = c.before.before.before.before.before.before.before.before.requires in
+    (holds c.before.before.before.sizes-of.ensures c.before.before.place.ensures a.0, (few-rounds a.0, a.1))
 
 enum-known-next : tie.Need-enum-known-next
 enum-known-next c = search rules

@@ -14,7 +14,7 @@ returns c =
     let n = c.before.before in
     let a = n.before.before.before in
     let g = a.args in
-    stops (parts g.sh g.tm g.tol g.m.now) g.limit g.tm.paper g.rec g.budget g.sh g.s.now
+    stops (parts g.sh g.tm g.tol g.m.now) g.limit g.rec g.budget g.sh g.s.now
     (sym n.spent.ensures ∙ c.before.if1.true) a.requires.0.room
 
 run-steps-requires : tie.Need-run-steps-requires
@@ -22,7 +22,7 @@ run-steps-requires c κs =
     let n = c.before.before in
     let a = n.before.before.before in
     let g = a.args in
-    (a.requires.0, (possible-sane g.limit g.tm.paper g.rec a.requires.1.1 (sym n.spent.ensures ∙ c.before.if1.false), a.requires.1.0))
+    (a.requires.0, (possible-sane g.limit g.rec a.requires.1.1 (sym n.spent.ensures ∙ c.before.if1.false), a.requires.1.0))
 
 same_length : tie.Need-same-length
 same_length c = c.before.before.run-steps.auto.1.1.1.1.1.0
@@ -32,7 +32,7 @@ returns-2 c =
     let n = c.before.before.before.before.before in
     let a = n.before.before.before in
     let g = a.args in
-    goes (parts g.sh g.tm g.tol g.m.now) g.limit g.tm.paper g.rec g.budget g.sh g.s.now
+    goes (parts g.sh g.tm g.tol g.m.now) g.limit g.rec g.budget g.sh g.s.now
     a.requires.1.1 (sym n.spent.ensures ∙ c.before.before.before.before.if1.false) c.before.before.run-steps.ensures
 
 pub go-spec : {M : Type 1} → statement M

@@ -52,41 +52,18 @@ returns-4 c =
     let st = b1.before.before.args.st in
     rw (alpha-passed b1, ratio-passed b2, tol-passed b3, lt-leb st.max_iter 1000 c.if4.true)
 
-centring-requires : tie.Need-centring-requires
-centring-requires c κs = tt
+panels-requires : tie.Need-panels-requires
+panels-requires c κs = tt
 
 returns-5 : tie.Need-returns-5
 unfolding allowed_of
 returns-5 c =
-    let b4 = c.before.before in
+    let b4 = c.before in
     let b3 = b4.before.before in
     let b2 = b3.before.before in
     let b1 = b2.before.before in
     let st = b1.before.before.args.st in
-    let g = c.before.centring in
-    rw (alpha-passed b1, ratio-passed b2, tol-passed b3, le-leb st.max_iter 1000 b4.if4.false, ← g.ensures, not-true g.result c.if5.true)
-
-panels-requires : tie.Need-panels-requires
-panels-requires c κs = tt
-
-returns-6 : tie.Need-returns-6
-unfolding allowed_of
-returns-6 c =
-    let b5 = c.before in
-    let g = b5.before.centring in
-    let b4 = b5.before.before in
-    let b3 = b4.before.before in
-    let b2 = b3.before.before in
-    let b1 = b2.before.before in
-    let st = b1.before.before.args.st in
-    rw (
-      alpha-passed b1,
-      ratio-passed b2,
-      tol-passed b3,
-      le-leb st.max_iter 1000 b4.if4.false,
-      ← g.ensures,
-      not-false g.result b5.if5.false,
-    ) c.panels.ensures
+    rw (alpha-passed b1, ratio-passed b2, tol-passed b3, le-leb st.max_iter 1000 b4.if4.false) c.panels.ensures
 
 pub allowed-spec : {M : Type 1} → statement M
-allowed-spec = tie.close (tie.spec within-requires returns within-requires-2 returns-2 within-requires-3 returns-3 returns-4 centring-requires returns-5 panels-requires returns-6)
+allowed-spec = tie.close (tie.spec within-requires returns within-requires-2 returns-2 within-requires-3 returns-3 returns-4 panels-requires returns-5)
