@@ -4,7 +4,7 @@ ghost use Rattle.std.specs.Float.Ieee.Scale.{finite as is_finite};
 ghost use Rattle.arrays.specs.Scan.{first_infinite, is_clean};
 
 // What a scan finds: nothing, or the first index.
-#[derive(Drop)]
+#[derive(Clone, Copy)]
 pub enum Found {
     Clean,
     At(usize),

@@ -33,7 +33,7 @@ pub fn dot(x: &[f64], a: usize, y: &[f64], b: usize, n: usize) -> f64
 }
 
 // Three dots: of a with itself, of b with itself, and of b with c.
-#[derive(Drop)]
+#[derive(Clone, Copy)]
 pub struct Dots {
     pub aa: f64,
     pub bb: f64,

@@ -9,14 +9,14 @@ use arrays::sums::{norm_2, product};
 use arrays::vectors::{add_scaled, copy, scale_add, sub_scaled};
 
 // A round's answer: the error and bkden. It stops where the error is at most the tolerance; a NaN is not.
-#[derive(Drop)]
+#[derive(Clone, Copy)]
 pub enum Turned {
     Stop(f64, f64),
     More(f64, f64),
 }
 
 // Where each of the seven vectors begins.
-#[derive(Drop)]
+#[derive(Clone, Copy)]
 pub struct Seven {
     pub x: usize,
     pub r: usize,

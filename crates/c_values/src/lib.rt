@@ -8,7 +8,7 @@ use numbers::bits::{bits_of, of_bits};
 use settings::Settings;
 
 // Three floats whose words stand in a row.
-#[derive(Drop)]
+#[derive(Clone, Copy)]
 pub struct Floats(pub f64, pub f64, pub f64);
 
 // Back, every word but 0 is true.

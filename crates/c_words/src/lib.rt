@@ -119,7 +119,7 @@ pub fn write_paused(a: Paused, out: &mut [u64])
 }
 
 // The words of an answer, but for its counts.
-#[derive(Drop)]
+#[derive(Clone, Copy)]
 pub struct Told {
     pub kind: u64,
     pub number: u64,

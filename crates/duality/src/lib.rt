@@ -14,13 +14,13 @@ use numbers::order::maximum;
 use settings::Terms;
 
 // The primal value and the best dual one.
-#[derive(Drop)]
+#[derive(Clone, Copy)]
 struct Objectives {
     primal: f64,
     dual: f64,
 }
 
-#[derive(Drop)]
+#[derive(Clone, Copy)]
 pub struct Values {
     pub gap: f64,
     pub dual: f64,

@@ -25,20 +25,20 @@ use stages::{How, Stepped};
 use steps::run_steps;
 
 // What a resuming call answers. Done carries the intercept, how the fit ended, and the counts; the weights are in the lent slice.
-#[derive(Drop)]
+#[derive(Clone, Copy)]
 pub enum Answer {
     Pending,
     Done(f64, Way, Counts),
     Refused(Refusal),
 }
 
-#[derive(Drop)]
+#[derive(Clone, Copy)]
 pub struct Resumed {
     pub answer: Answer,
     pub paused: Paused,
 }
 
-#[derive(Drop)]
+#[derive(Clone, Copy)]
 pub enum Started {
     Ready(Paused),
     Refused(Refusal),

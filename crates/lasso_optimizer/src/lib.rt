@@ -3,7 +3,7 @@
 use refusal::Failure;
 
 // The scalars between steps.
-#[derive(Drop)]
+#[derive(Clone, Copy)]
 pub struct Scalars {
     // the barrier's weight, the search's step, the best dual value so far
     pub t: f64,
@@ -22,7 +22,7 @@ pub struct Scalars {
 }
 
 // An opening: the solver is ready; the fit has converged; it fails.
-#[derive(Drop)]
+#[derive(Clone, Copy)]
 pub enum Opened {
     Ready(Scalars),
     Done,
@@ -30,14 +30,14 @@ pub enum Opened {
 }
 
 // A solver round: it goes on; it stops.
-#[derive(Drop)]
+#[derive(Clone, Copy)]
 pub enum Turned {
     More(Scalars),
     Stop(Scalars),
 }
 
 // A trial: it is taken; the step is halved.
-#[derive(Drop)]
+#[derive(Clone, Copy)]
 pub enum Tried {
     Accept(Scalars),
     Halve(Scalars),

@@ -6,7 +6,7 @@ ghost use Rattle.layout.specs.Need.{sizes_of, Small};
 use settings::Settings;
 
 // k is n + p. `stored` is the number of the design's rows in the scratch: k, or none of a lazy design; pr and pc are the panels' of a lazy one, and else 0.
-#[derive(Drop)]
+#[derive(Clone, Copy)]
 pub struct Sizes {
     pub n: usize,
     pub p: usize,
@@ -18,7 +18,7 @@ pub struct Sizes {
 }
 
 // Where each vector begins in the scratch.
-#[derive(Drop)]
+#[derive(Clone, Copy)]
 pub struct Places {
     pub w: usize,
     pub u: usize,

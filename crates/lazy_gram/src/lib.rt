@@ -13,7 +13,7 @@ use layout::{Places, Sizes};
 use settings::Terms;
 
 // Where things lie in the scratch: the columns' centres and scales, the left and the right panel, whose rows have cc words, and the Gram.
-#[derive(Drop)]
+#[derive(Clone, Copy)]
 pub struct GramPlaces {
     pub ce: usize,
     pub sc: usize,

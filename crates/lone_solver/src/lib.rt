@@ -8,7 +8,7 @@ use lone_rounds::run;
 use numbers::bits::canonical;
 use refusal::{Checked, Refusal, at};
 
-#[derive(Drop)]
+#[derive(Clone, Copy)]
 pub enum Answer {
     Solved(f64),
     Refused(Refusal),

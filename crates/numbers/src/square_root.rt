@@ -67,7 +67,7 @@ fn half(b: u64, digits: u64) -> u64
 }
 
 // A root on its way. As in long division it is worked from the top, here bit by bit, and for each bit the argument's next pair of bits is brought down.
-#[derive(Drop)]
+#[derive(Clone, Copy)]
 struct Digits {
     // the bits of the result so far
     root: u64,

@@ -11,7 +11,7 @@ use numbers::bits::canonical;
 use refusal::{Checked, Refusal, at, in_size};
 use several::{eight, put_eight};
 
-#[derive(Drop)]
+#[derive(Clone, Copy)]
 pub enum Predicted {
     Done,
     Refused(Refusal),

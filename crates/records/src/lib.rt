@@ -9,16 +9,16 @@ use lasso_optimizer::Scalars;
 use numbers::bits::canonical;
 
 // Rounds opened, solver rounds made, trials made: each a type of its own, so that none stands in for another.
-#[derive(Drop)]
+#[derive(Clone, Copy)]
 pub struct Rounds(pub u64);
 
-#[derive(Drop)]
+#[derive(Clone, Copy)]
 pub struct SolverRounds(pub u64);
 
-#[derive(Drop)]
+#[derive(Clone, Copy)]
 pub struct Trials(pub u64);
 
-#[derive(Drop)]
+#[derive(Clone, Copy)]
 pub struct Counts {
     pub rounds: Rounds,
     pub solver: SolverRounds,
@@ -26,7 +26,7 @@ pub struct Counts {
 }
 
 // What is next: a round is opened; the solver's k-th round, from 1, is made; a trial is made, after j others. Or nothing, since the fit has ended.
-#[derive(Drop)]
+#[derive(Clone, Copy)]
 pub enum Stage {
     Opening,
     Solving(u64),
@@ -34,7 +34,7 @@ pub enum Stage {
     Ended,
 }
 
-#[derive(Drop)]
+#[derive(Clone, Copy)]
 pub struct Paused {
     pub stage: Stage,
     pub round: u64,

@@ -6,7 +6,7 @@ ghost use Rattle.refusal.specs.Sizes.{in_size};
 
 use arrays::scan::Found;
 
-#[derive(Drop)]
+#[derive(Clone, Copy)]
 pub enum Refusal {
     Size,
     Length,
@@ -27,21 +27,21 @@ pub enum Refusal {
 }
 
 // How a fit is done: with converged weights, or after as many rounds as it may make.
-#[derive(Drop)]
+#[derive(Clone, Copy)]
 pub enum Way {
     Converged,
     Limit,
 }
 
 // Why a fit fails that was begun: a round's search found no step, or its solver's tolerance is at or below 0.
-#[derive(Drop)]
+#[derive(Clone, Copy)]
 pub enum Failure {
     Search,
     Tolerance,
 }
 
 // What a check of an input answers.
-#[derive(Drop)]
+#[derive(Clone, Copy)]
 pub enum Checked {
     Fine,
     Bad(Refusal),

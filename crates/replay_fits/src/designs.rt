@@ -17,7 +17,7 @@ use stored::tally::Verdict;
 
 // Which of the numbers are those stored: statistics and terms; targets; Gram, with the panels +0 afterwards; both products, with nothing written behind the
 // needed words.
-#[derive(Drop)]
+#[derive(Clone, Copy)]
 struct Seen(bool, bool, bool, bool);
 
 pub fn verdict(w: &[u64], x: &[f64], y: &[f64]) -> Verdict {

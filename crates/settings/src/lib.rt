@@ -6,7 +6,7 @@ use arrays::sums::float_of;
 use numbers::order::maximum;
 use numbers::square_root::root;
 
-#[derive(Drop)]
+#[derive(Clone, Copy)]
 pub struct Settings {
     pub alpha: f64,
     pub l1_ratio: f64,
@@ -21,7 +21,7 @@ pub struct Settings {
 }
 
 // What a fit takes from its settings and its number of rows.
-#[derive(Drop)]
+#[derive(Clone, Copy)]
 pub struct Terms {
     pub gamma: f64,
     pub padding: f64,

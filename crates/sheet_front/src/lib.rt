@@ -6,7 +6,7 @@ ghost use Rattle.sheet_front.specs.Front.{version_of, body_at, front_bytes, fron
 use big_endian::write_number;
 
 // With the family, which version 2 alone has.
-#[derive(Drop)]
+#[derive(Clone, Copy)]
 pub enum Version {
     One,
     Two(u32),

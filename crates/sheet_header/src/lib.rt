@@ -31,14 +31,14 @@ pub const FLAGS_AT: usize = 32;
 // Where its rows begin.
 pub const ROWS_AT: usize = 33;
 
-#[derive(Drop)]
+#[derive(Clone, Copy)]
 pub struct Header {
     pub n: usize,
     pub p: usize,
     pub settings: Settings,
 }
 
-#[derive(Drop)]
+#[derive(Clone, Copy)]
 pub enum Read {
     Sheet(Header),
     Refused(Refusal),

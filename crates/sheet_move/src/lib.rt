@@ -11,7 +11,7 @@ use sheet::{count_remaining, rows_check};
 use sheet_front::{Version, body_at, front_bytes, write_front};
 use sheet_header::{N_AT, P_AT, header_check};
 
-#[derive(Drop)]
+#[derive(Clone, Copy)]
 pub enum Moved {
     // how many bytes it has, and its family: the one given, or the one taken out
     Sheet(usize, u32),

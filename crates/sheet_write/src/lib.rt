@@ -20,7 +20,7 @@ use sheet_header::{
     ALPHA_AT, FLAGS_AT, L1_RATIO_AT, MAX_ITER_AT, P_AT, ROWS_AT, TOL_AT, flags_for, row_at,
 };
 
-#[derive(Drop)]
+#[derive(Clone, Copy)]
 pub enum Written {
     // how many bytes it has
     Sheet(usize),

@@ -20,13 +20,13 @@ use solver_round::{aim, turn};
 use trial::attempt;
 
 // How a fit ends.
-#[derive(Drop)]
+#[derive(Clone, Copy)]
 pub enum How {
     Done(Way),
     Failed(Failure),
 }
 
-#[derive(Drop)]
+#[derive(Clone, Copy)]
 pub enum Stepped {
     Going(Paused),
     Over(How, Counts),

@@ -11,7 +11,7 @@ ghost use Rattle.std.specs.Prelude.{◌≡◌, ◌≤◌, min, length};
 
 use words::{Parsed, Word, read_word, read_words};
 
-#[derive(Drop)]
+#[derive(Clone, Copy)]
 pub struct Record {
     // how many words it has; they stand at the front of the buffer
     pub words: usize,

@@ -6,7 +6,7 @@ use numbers::bits::{bits_of, of_bits};
 pub const MARK: u64 = 0x1234_5678_9abc_def0;
 
 // The value's bits, the first place that has it, how many have it, and how far apart these are.
-#[derive(Drop)]
+#[derive(Clone, Copy)]
 pub struct Spoilt {
     pub value: u64,
     pub from: usize,

@@ -5,7 +5,7 @@ use super::next_word;
 use super::words::Word;
 
 // What is said of a record.
-#[derive(Drop)]
+#[derive(Clone, Copy)]
 pub enum Verdict {
     // up to four things are compared: which are as stored. Those that a program does not have are true.
     Compared(bool, bool, bool, bool),
@@ -16,7 +16,7 @@ pub enum Verdict {
 }
 
 // No input has 2^64 records, so that none of these counts wraps.
-#[derive(Drop)]
+#[derive(Clone, Copy)]
 pub struct Tally {
     pub records: u64,
     // how many are still to be read; none after damage

@@ -3,13 +3,13 @@ ghost use Rattle.std.specs.Prelude.{◌≡◌, ◌+◌, ◌≤◌, length, take,
 ghost use Rattle.stored.specs.Words.{digit_of, ends_word, hex_from, word_at};
 ghost use Rattle.stored.specs.Runs.{RunRead};
 
-#[derive(Drop)]
+#[derive(Clone, Copy)]
 pub enum Word {
     Number(u64),
     Bad,
 }
 
-#[derive(Drop)]
+#[derive(Clone, Copy)]
 pub enum Parsed {
     Whole,
     // the place of the first word that is bad, from 0

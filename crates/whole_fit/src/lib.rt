@@ -10,14 +10,14 @@ use refusal::{Checked, Refusal, Way};
 use settings::Settings;
 
 // What a whole fit answers: as a resuming call, but never pending.
-#[derive(Drop)]
+#[derive(Clone, Copy)]
 pub enum Final {
     Done(f64, Way, Counts),
     Refused(Refusal),
 }
 
 // The answer, and an ended record with the counts.
-#[derive(Drop)]
+#[derive(Clone, Copy)]
 pub struct Whole {
     pub answer: Final,
     pub paused: Paused,
