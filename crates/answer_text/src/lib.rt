@@ -1,4 +1,6 @@
 // The lines of an answer, written into a lent slice, so that one program can print many.
+#![tactic(auto)]
+
 ghost use Rattle.std.specs.Prelude.{◌≡◌, ◌+◌, ◌≤◌, ◌<◌, length};
 ghost use Rattle.answer_text.specs.Text.{Wrote, Written.written, digit_of, hex_of, decimal_from};
 ghost use Rattle.answer_text.specs.Text.{count_text, word_text, end_text, counts_text, weight_text, weights_text, done_of, refused_of};

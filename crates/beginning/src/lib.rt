@@ -1,4 +1,6 @@
 // What a start writes: every needed word of the scratch, with statistics, targets, design and Gram; and the scalars of a fresh fit.
+#![tactic(auto)]
+
 ghost use Rattle.std.specs.Prelude.{◌≡◌, ◌<◌, ◌^◌, length};
 ghost use Rattle.layout.specs.Slots.{Room, words, Makes};
 ghost use Rattle.lasso_optimizer.specs.Fit.{fresh};

@@ -1,4 +1,6 @@
 // Whole numbers and floats in bytes, the highest byte first: read and written.
+#![tactic(auto)]
+
 ghost use Rattle.std.specs.Prelude.{◌≡◌, ◌+◌, ◌^◌, ◌≤◌, ◌<◌, length};
 ghost use Rattle.arrays.specs.Part.{put};
 ghost use Rattle.big_endian.specs.Bytes.{big_endian, two_bytes, float_at, bytes_of, float_bytes};

@@ -1,5 +1,7 @@
 // What the calls for C and Rust say in words: what is told of each answer, the record's words, which stay or are written anew, and the answer to a
 // wrong number of words.
+#![tactic(auto)]
+
 ghost use Rattle.std.specs.Prelude.{◌≡◌, ◌&&◌, cond, [], eqb, length};
 ghost use Rattle.refusal.specs.declared.Refusal.TheVariants.{Size, Length};
 ghost use Rattle.refusal.specs.Sizes.{in_size};

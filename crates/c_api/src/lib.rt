@@ -2,6 +2,8 @@
 // (crates c_values and c_words say which).
 // Each but the first returns the number of the refusal, 0 where there is none. A wrong number of words is refused with 2, as any slice's length is: after 1.
 // An answer that has its 7 words is written with every refusal.
+#![tactic(auto)]
+
 ghost use Rattle.c_api.specs.Calls.{ScratchCall, StartCall, ResumeCall, PredictCall, SolveCall};
 
 use c_answers::{

@@ -1,4 +1,6 @@
 // Plain values and the settings as words, for the calls over words, and back.
+#![tactic(auto)]
+
 ghost use Rattle.std.specs.Prelude.{◌≡◌, ◌+◌, ◌≤◌, length};
 ghost use Rattle.std.proofs.lemmas.List.Edits.{sets};
 ghost use Rattle.c_values.specs.Values.{truth_word, floats_from, floats_words};

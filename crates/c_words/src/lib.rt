@@ -1,4 +1,6 @@
 // Record and answer as the words of the calls for C and Rust (specs/Words.antt says which), and back.
+#![tactic(auto)]
+
 ghost use Rattle.std.specs.Prelude.{◌≡◌, length};
 ghost use Rattle.std.proofs.lemmas.List.Edits.{sets};
 ghost use Rattle.c_words.specs.Words.{stage_from, scalars_from, paused_from, stage_word, index_word, scalars_words, paused_words, told_words};

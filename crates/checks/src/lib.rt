@@ -1,4 +1,6 @@
 // The refusals that starting, resuming and predicting share: 1 to 4, and 5 and 6 of a start.
+#![tactic(auto)]
+
 ghost use Rattle.std.specs.Prelude.{◌≡◌};
 ghost use Rattle.checks.specs.Checks.{limits_of, scratch_words, start_values, Measured};
 

@@ -1,4 +1,6 @@
 // claimfit: a training sheet on standard input, the text of its fit on standard output.
+#![tactic(auto)]
+
 use sheet_fit::fit_sheet;
 
 fn main() {

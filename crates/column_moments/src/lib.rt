@@ -1,4 +1,6 @@
 // Column statistics of a lent matrix, walked once by its rows. Each column's sums run in row order from +0.
+#![tactic(auto)]
+
 ghost use Rattle.std.specs.Prelude.{◌≡◌, ◌+◌, ◌*◌, ◌≤◌, length, Float};
 ghost use Rattle.numbers.specs.Ops.{◌⊖◌, ◌⊗◌, ◌⊘◌};
 ghost use Rattle.numbers.specs.Root.{root_of};

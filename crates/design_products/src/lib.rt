@@ -1,4 +1,6 @@
 // Products with the design, by mode.
+#![tactic(auto)]
+
 ghost use Rattle.std.specs.Prelude.{◌≡◌, ◌+◌, ◌≤◌, length};
 ghost use Rattle.arrays.specs.Part.{part, put};
 ghost use Rattle.layout.specs.Slots.{vars};

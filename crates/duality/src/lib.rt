@@ -1,4 +1,6 @@
 // The gap part of an opening: residuals, the dual point, and the gap between the two values.
+#![tactic(auto)]
+
 ghost use Rattle.std.specs.Prelude.{◌≡◌};
 ghost use Rattle.design_products.specs.Mode.{Held};
 ghost use Rattle.layout.specs.Slots.{Room, vars, rest, Makes};

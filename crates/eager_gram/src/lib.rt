@@ -1,4 +1,6 @@
 // The Gram of the stored design.
+#![tactic(auto)]
+
 ghost use Rattle.std.specs.Prelude.{◌≡◌};
 ghost use Rattle.layout.specs.Slots.{Room, Makes};
 ghost use Rattle.gram_panels.specs.Panels.{mat, low, carry};

@@ -1,4 +1,6 @@
 // The elastic net: a fit that is started, and resumed with a budget of steps until it ends.
+#![tactic(auto)]
+
 ghost use Rattle.std.specs.Prelude.{◌≡◌, true, ◌≤◌, length};
 ghost use Rattle.pause.specs.Paused.{call};
 ghost use Rattle.settings.specs.Settings.{terms_of};

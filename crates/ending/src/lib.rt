@@ -1,4 +1,6 @@
 // What an end writes: the rescaled weights and the intercept, and +0 in every needed word of the scratch.
+#![tactic(auto)]
+
 ghost use Rattle.std.specs.Prelude.{◌≡◌, true, false, ◌+◌, ◌≤◌, length};
 ghost use Rattle.arrays.specs.Part.{part};
 ghost use Rattle.layout.specs.Slots.{vars, rest, words};

@@ -1,5 +1,7 @@
 // Panels of the normalised matrix, the products of two panels added to a block of the Gram's sums, and its upper triangle from the lower. Each sum takes the rows
 // in their order.
+#![tactic(auto)]
+
 ghost use Rattle.std.specs.Prelude.{◌≡◌, ◌+◌, ◌*◌, ◌≤◌, length};
 ghost use Rattle.arrays.specs.Part.{put, tab};
 ghost use Rattle.gram_panels.specs.Panels.{least, norm_at, FillRow, mat, same, panel_at, Fill, wid, sum_at, EntryRow, carry, Block};

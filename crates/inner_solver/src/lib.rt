@@ -1,4 +1,6 @@
 // The solver inside a fit: its first lines and one round, over the scratch. The Gram lies there too.
+#![tactic(auto)]
+
 ghost use Rattle.std.specs.Prelude.{◌≡◌, ◌+◌, ◌*◌};
 ghost use Rattle.arrays.specs.Part.{part, put, tab};
 ghost use Rattle.matrices.specs.Products.{rows_of};

@@ -1,5 +1,7 @@
 // What a round of the optimiser leaves to the next, and how its parts answer. The parts are defined in specs/, with the nested loops over them; the code of
 // each has a crate of its own.
+#![tactic(auto)]
+
 use refusal::Failure;
 
 // The scalars between steps.

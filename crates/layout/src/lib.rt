@@ -1,4 +1,6 @@
 // The sizes of a fit, the words of scratch that it needs, and the places of its vectors there.
+#![tactic(auto)]
+
 ghost use Rattle.std.specs.Prelude.{◌≡◌, ◌≤◌};
 ghost use Rattle.layout.specs.Slots.{Laid, words};
 ghost use Rattle.layout.specs.Need.{sizes_of, Small};

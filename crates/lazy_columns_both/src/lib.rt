@@ -1,4 +1,6 @@
 // The transposed design that is not stored, times two vectors: each of its entries is made once for both, where no reciprocal is missing.
+#![tactic(auto)]
+
 ghost use Rattle.std.specs.Prelude.{◌≡◌, ◌+◌, ◌-◌, ◌*◌, ◌/◌, ◌≤◌, length};
 ghost use Rattle.arrays.specs.Part.{part, put, tab};
 ghost use Rattle.arrays.specs.Sums.{◌!◌, products, plus0};

@@ -1,4 +1,6 @@
 // The Gram of the design in panels of R rows by C columns, from the lent matrix. Each entry's sum runs over the rows in their order, whatever the panels.
+#![tactic(auto)]
+
 ghost use Rattle.std.specs.Prelude.{◌≡◌, ◌+◌, ◌-◌, ◌*◌, ◌≤◌, length};
 ghost use Rattle.arrays.specs.Part.{put, tab};
 ghost use Rattle.layout.specs.Slots.{Makes};

@@ -1,4 +1,6 @@
 // An entry of the design that is not stored, of lazy_normalization.rs: from the lent number, its column's centre, scale and reciprocal.
+#![tactic(auto)]
+
 ghost use Rattle.std.specs.Prelude.{◌≡◌};
 ghost use Rattle.layout.specs.Slots.{Room, Makes};
 ghost use Rattle.lazy_normalization.specs.Lazy.{is_normal, reciprocal_of, normalised, recip_store};

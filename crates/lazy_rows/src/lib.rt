@@ -1,4 +1,6 @@
 // The design that is not stored, of lazy_normalization.rs, times a vector: from the lent matrix, centres, scales and reciprocals.
+#![tactic(auto)]
+
 ghost use Rattle.std.specs.Prelude.{◌≡◌, ◌+◌, ◌*◌};
 ghost use Rattle.numbers.specs.Ops.{◌⊗◌};
 ghost use Rattle.arrays.specs.Part.{part, put, tab};

@@ -1,4 +1,6 @@
 // The line search's loops.
+#![tactic(auto)]
+
 ghost use Rattle.std.specs.Prelude.{◌≡◌, ◌+◌, ◌≤◌, length};
 ghost use Rattle.arrays.specs.Part.{part, put};
 ghost use Rattle.line_search.specs.Search.{faces_of, largest_of, sumlogneg_of, phi_of, decreases, Faces};

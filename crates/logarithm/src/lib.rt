@@ -1,4 +1,6 @@
 // The natural logarithm, step for step that of fdlibm's e_log.c; a subnormal is normalised by its leading zeros instead of the product with 2^54.
+#![tactic(auto)]
+
 ghost use Rattle.std.specs.Prelude.{◌≡◌, ◌+◌, ◌*◌, ◌<◌, ◌≤◌, pos};
 ghost use Rattle.std.specs.Float.{binary64};
 ghost use Rattle.std.specs.Float.Ieee.{of_int, minus};

@@ -1,4 +1,6 @@
 // The lone solver's rounds: a x = b, for a matrix in a slice of its own, from a start whose place the solution takes. The scratch is eight vectors.
+#![tactic(auto)]
+
 ghost use Rattle.std.specs.Prelude.{◌≡◌, ◌*◌, length};
 ghost use Rattle.arrays.specs.Part.{part, put};
 ghost use Rattle.arrays.specs.Vectors.{Two};

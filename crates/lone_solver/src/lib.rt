@@ -1,4 +1,6 @@
 // The lone solver: a x = b, for a matrix in a slice of its own, from a start whose place the solution takes; behind the refusals of its input.
+#![tactic(auto)]
+
 ghost use Rattle.std.specs.Prelude.{◌≡◌, ◌*◌, ◌≤◌, length};
 ghost use Rattle.lone_solver.specs.Solve.{Outcome.outcome, checked, valued, solve_of};
 

@@ -1,4 +1,6 @@
 // Products of a transposed matrix, by rows, with a vector: rows are added to all sums at once, so that memory is read in its order.
+#![tactic(auto)]
+
 ghost use Rattle.std.specs.Prelude.{◌≡◌, ◌+◌, ◌*◌, ◌≤◌, length};
 ghost use Rattle.arrays.specs.Part.{part, put, tab};
 ghost use Rattle.arrays.specs.Sums.{◌!◌};

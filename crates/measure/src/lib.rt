@@ -1,5 +1,7 @@
 // Pieces of a fit, each `count` times on lent scratch, for tools/speed. The answer is the place of the result in the scratch, or 0 where a size or a setting is
 // wrong and nothing was done.
+#![tactic(auto)]
+
 ghost use Rattle.layout.specs.Slots.{Room};
 ghost use Rattle.design_products.specs.Mode.{Held};
 ghost use Rattle.measure.specs.Measure.{Lent};

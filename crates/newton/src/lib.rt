@@ -1,4 +1,6 @@
 // The Newton terms of a round: loops over p elements, each one vector of others with the same index.
+#![tactic(auto)]
+
 ghost use Rattle.std.specs.Prelude.{◌≡◌, ◌<◌, ◌^◌, Float};
 ghost use Rattle.std.specs.Float.Ieee.{neg};
 ghost use Rattle.arrays.specs.Part.{part, put};

@@ -1,4 +1,6 @@
 // The Newton part of an opening: the barrier's terms, the gradient and the preconditioner, for the weight t of the barrier.
+#![tactic(auto)]
+
 ghost use Rattle.std.specs.Prelude.{◌≡◌};
 ghost use Rattle.arrays.specs.Part.{part, put};
 ghost use Rattle.design_products.specs.Mode.{transposed_of, Held};

@@ -1,4 +1,6 @@
 // A round's opening: the gap part, the test of convergence, t, the Newton part, the solver's tolerance and first lines.
+#![tactic(auto)]
+
 ghost use Rattle.std.specs.Prelude.{◌≡◌};
 ghost use Rattle.design_products.specs.Mode.{Held};
 ghost use Rattle.layout.specs.Slots.{Room, vars, rest};

@@ -1,4 +1,6 @@
 // A whole fit in up to three resuming calls, and its promise: that of one call.
+#![tactic(auto)]
+
 ghost use Rattle.std.specs.Prelude.{◌≡◌, [], ◌∷◌, length};
 ghost use Rattle.promises.specs.Chain.{Chain};
 ghost use Rattle.whole_fit.specs.Fit.{whole_outcome, whole_of};

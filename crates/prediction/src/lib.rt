@@ -1,4 +1,6 @@
 // Predictions: each row of a matrix times the weights, plus the intercept.
+#![tactic(auto)]
+
 ghost use Rattle.std.specs.Prelude.{◌≡◌, ◌*◌, ◌≤◌, length};
 ghost use Rattle.numbers.specs.Ops.{◌⊕◌};
 ghost use Rattle.arrays.specs.Part.{put, tab};

@@ -1,1 +1,3 @@
 // What is promised of the entry points, stated about their contracts: theorems only. Nothing runs here.
+
+#![tactic(auto)]

@@ -1,4 +1,6 @@
 // The paused record: its types, the records that a call hands back, and which of those that it is given it may continue.
+#![tactic(auto)]
+
 ghost use Rattle.std.specs.Prelude.{◌≡◌, ◌≤◌};
 ghost use Rattle.pause.specs.Parts.{none};
 ghost use Rattle.records.specs.Record.{counts_back, paused_at};

@@ -1,4 +1,6 @@
 // How a call ends: why an input or a fit is refused, in the order of the numbers that the refusals have; how a fit is done, and how it fails.
+#![tactic(auto)]
+
 ghost use Rattle.std.specs.Prelude.{◌≡◌};
 ghost use Rattle.refusal.specs.Checks.{found_at, Near};
 ghost use Rattle.refusal.specs.Refusal.{ends_fit, number_of, place_of, refused_by};

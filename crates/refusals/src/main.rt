@@ -3,6 +3,8 @@
 // that has it among the values of the call, how many have it and how far apart; the paused record; the budget. All other values are finite.
 // The targets of a prediction are the slice that it writes. The solver's order stands for the rows, right side and start for targets and weights,
 // limit for M. The words that a call takes and its answer make a line of the table that is printed.
+#![tactic(auto)]
+
 mod calls;
 mod table;
 

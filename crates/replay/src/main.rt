@@ -1,6 +1,8 @@
 // Replays stored answers, kind by kind, and compares them bit for bit. Of each kind standard input has the number of its records, and the records.
 // A record is its kind, how many words stand before its numbers, how many of these are the first of two parts, and then what its trial is given
 // (crates `replay_parts`, `replay_fits`, `replay_moves` and `replay_sheets`): words, and the bits of numbers.
+#![tactic(auto)]
+
 ghost use Rattle.std.specs.Prelude.{◌≤◌, ◌<◌, length};
 
 use stored::bits::load;

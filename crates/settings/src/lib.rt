@@ -1,4 +1,6 @@
 // The settings of a fit as one record, their check, and what follows from them.
+#![tactic(auto)]
+
 ghost use Rattle.std.specs.Prelude.{◌≡◌, ◌<◌, ◌^◌};
 ghost use Rattle.settings.specs.Settings.{allowed_of, panels_of, range_of, gamma_of, terms_of};
 

@@ -1,5 +1,7 @@
 // Several sums or vectors at a time: sums side by side, of which none waits for another, and sums that are read and written once for several products. The order
 // inside each sum is its own.
+#![tactic(auto)]
+
 ghost use Rattle.std.specs.Prelude.{◌≡◌, ◌+◌, ◌*◌, ◌≤◌, ◌<◌, length};
 ghost use Rattle.arrays.specs.Part.{part, put, tab};
 ghost use Rattle.arrays.specs.Sums.{◌!◌, product_of};

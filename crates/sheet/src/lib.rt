@@ -1,4 +1,6 @@
 // The training sheet's reader, over a slice of bytes. A row's place in the matrix comes from its order among the rows that remain, alone.
+#![tactic(auto)]
+
 ghost use Rattle.std.specs.Prelude.{◌≡◌, false, cond, ◌+◌, ◌*◌, ◌≤◌, ◌<◌, length, set};
 ghost use Rattle.arrays.specs.Part.{put, tab};
 ghost use Rattle.big_endian.specs.Bytes.{float_at};

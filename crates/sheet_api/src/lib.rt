@@ -1,6 +1,8 @@
 // The training sheet's reader, writers and moves for C and Rust, over bytes, with header, settings, move and place as words (specs/ says which).
 // Each call returns the number of the refusal, 0 where there is none. A wrong number of words is refused with 2: in the reader after what is wrong with the bytes
 // and after 1, in a writer with the other lengths, in a move last. The place's word is written with every answer.
+#![tactic(auto)]
+
 ghost use Rattle.std.specs.Prelude.{◌≡◌, [], length};
 ghost use Rattle.sheet_front.specs.declared.Version.TheVariants.{One, Two};
 ghost use Rattle.sheet.specs.Sheet.{sheet_of};

@@ -1,4 +1,6 @@
 // A training sheet's bytes to the text of its fit, or of its refusal.
+#![tactic(auto)]
+
 ghost use Rattle.std.specs.Prelude.{◌≡◌, ◌≤◌, length};
 ghost use Rattle.answer_text.specs.Text.{Written.written, laid};
 ghost use Rattle.whole_fit.specs.Fit.{said_final, whole_of};

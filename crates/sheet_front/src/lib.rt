@@ -1,4 +1,6 @@
 // What stands in front of a training sheet's body: the version, the length of all that follows it, and in version 2 a family.
+#![tactic(auto)]
+
 ghost use Rattle.std.specs.Prelude.{◌≡◌, ◌+◌, ◌^◌, ◌≤◌, ◌<◌, length};
 ghost use Rattle.arrays.specs.Part.{put};
 ghost use Rattle.sheet_front.specs.Front.{version_of, body_at, front_bytes, front_of};

@@ -1,4 +1,6 @@
 // The training sheet up to its rows: the checks of its front and of the header in front of its body, and what the header says.
+#![tactic(auto)]
+
 ghost use Rattle.std.specs.Prelude.{◌≡◌, cond, ◌+◌, ◌^◌, ◌≤◌, ◌<◌, length};
 ghost use Rattle.sheet_header.specs.Flags.{flags_fine, flags_for};
 ghost use Rattle.sheet_header.specs.Header.{row_at, row-bytes, body_check, accept_check, header_of, header_read};

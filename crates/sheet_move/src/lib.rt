@@ -1,4 +1,6 @@
 // A training sheet moved from version 1 up to version 2, and down: another front, and the body's bytes as they stand.
+#![tactic(auto)]
+
 ghost use Rattle.std.specs.Prelude.{◌≡◌, ◌+◌, ◌≤◌, length};
 ghost use Rattle.arrays.specs.Part.{put};
 ghost use Rattle.sheet_front.specs.Front.{front_bytes, sheet_with};

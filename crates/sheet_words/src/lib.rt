@@ -1,4 +1,6 @@
 // What the calls for C and Rust say of a training sheet in words: the number and the place of a refusal, and a header.
+#![tactic(auto)]
+
 ghost use Rattle.std.specs.Prelude.{◌≡◌, ◌&&◌, eqb, length};
 ghost use Rattle.sheet_words.specs.Words.{header-words, header_words, check_in, number_by, place_by, number_in, header_in, place_word, place_words, unread};
 

@@ -1,4 +1,6 @@
 // A solver round inside a fit, and what follows the last one.
+#![tactic(auto)]
+
 ghost use Rattle.std.specs.Prelude.{◌≡◌};
 ghost use Rattle.layout.specs.Slots.{Room, vars, rest};
 ghost use Rattle.lasso_optimizer.specs.Data.{held};

@@ -1,4 +1,6 @@
 // One step of each stage.
+#![tactic(auto)]
+
 ghost use Rattle.std.specs.Prelude.{◌≡◌, ◌≤◌};
 ghost use Rattle.pause.specs.Paused.{opening, solving, searching, step};
 ghost use Rattle.design_products.specs.Mode.{Held};

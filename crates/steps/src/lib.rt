@@ -1,4 +1,6 @@
 // One step of a paused fit, and steps up to a budget.
+#![tactic(auto)]
+
 ghost use Rattle.std.specs.Prelude.{◌≡◌, ◌≤◌};
 ghost use Rattle.pause.specs.Progress.{run};
 ghost use Rattle.pause.specs.Paused.{step};

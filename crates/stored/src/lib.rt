@@ -1,5 +1,7 @@
 // Records from standard input: words, of which the first is the number of records, and a record is its length in words and the words. These
 // go to a buffer that the caller lends.
+#![tactic(auto)]
+
 pub mod bits;
 pub mod bytes;
 pub mod memory;

@@ -1,4 +1,6 @@
 // A trial of the line search.
+#![tactic(auto)]
+
 ghost use Rattle.std.specs.Prelude.{◌≡◌};
 ghost use Rattle.design_products.specs.Mode.{Held};
 ghost use Rattle.layout.specs.Slots.{Room, vars, rest, Makes};

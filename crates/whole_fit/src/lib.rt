@@ -1,4 +1,6 @@
 // A whole fit in one call, and its promise: smartcore's fit.
+#![tactic(auto)]
+
 ghost use Rattle.std.specs.Prelude.{◌≡◌};
 ghost use Rattle.elastic_net.specs.ElasticNet.{start_outcome};
 ghost use Rattle.whole_fit.specs.Fit.{whole_outcome, whole_of, start_whole, refused_as, Settles, HasEnded};

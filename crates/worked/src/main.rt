@@ -1,4 +1,6 @@
 // start, resume, fit_in_pieces, fit, predict, solve, count_rows and read_sheet once each, on numbers that can be followed by hand; the README quotes what this prints.
+#![tactic(auto)]
+
 ghost use Rattle.std.specs.Prelude.{◌≡◌, length};
 
 use elastic_net::{Answer, Started, resume, start};

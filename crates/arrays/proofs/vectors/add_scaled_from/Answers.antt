@@ -1,0 +1,25 @@
+use Prim.Native.Nat.{◌-◌, ◌<◌}
+use mathlib.Core.Path.{refl}
+use native.Mathlib.Omega.{arith}
+use lib.Ieee.{nan}
+use Rattle.numbers.specs.Ops.{◌⊕◌, ◌⊗◌}
+use Rattle.arrays.specs.Part.{part}
+use Rattle.arrays.proofs.Part.{get_or-part}
+use Rattle.arrays.specs.Sums.{◌!◌}
+use Rattle.arrays.specs.Vectors.{zip_of}
+use Rattle.arrays.proofs.Turns.{Made, made_none, made_more, kept, made_all}
+use Rattle.arrays.proofs.vectors.add_scaled_from.Goals as goal
+
+pub loop-i-init : goal.loop-i-init
+loop-i-init c = made_none _ _ _ _
+
+pub loop-i-preserved : goal.loop-i-preserved
+loop-i-preserved c =
+    let g = c.args in
+    let i = c.loop-i.i in
+    let h : i < g.n = omega arith in
+    made_more c.loop-i.invariant _ h (rw (kept c.loop-i.invariant g.out h (λ _ _. refl), get_or-part g.t.now g.a g.n i nan h))
+
+pub returns : goal.returns
+unfolding zip_of
+returns c = made_all c.loop-i.invariant (omega arith)

@@ -1,0 +1,15 @@
+-- `arrays::vectors::copy` meets its contract. The invariant: the first i elements of the part at a, as they were, are copied, and all else is as it was.
+-- The measure: n - i. Assumes nothing.
+use Prim.Native.Nat.{◌-◌}
+use native.Mathlib.Omega.{arith}
+use lib.Ieee.{Float}
+use Rattle.arrays.specs.Part.{part}
+use Rattle.arrays.specs.Sums.{◌!◌}
+use Rattle.arrays.proofs.Turns.{Made, made_none, map_more, made-copy}
+use Rattle.arrays.proofs.vectors.copy.Given as goal
+
+abbrev pub invariant-loop-i : goal.invariant-loop-i
+invariant-loop-i l = Made l.initial.s l.out l.n (λ k. part l.initial.s l.a l.n ! k) l.s l.i
+
+abbrev pub decreases-loop-i : goal.decreases-loop-i
+decreases-loop-i l = l.n - l.i

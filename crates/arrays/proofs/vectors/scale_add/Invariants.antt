@@ -1,0 +1,17 @@
+-- `arrays::vectors::scale_add` meets its contract. The invariant: the first i elements of x * a + b are written, and all else is as it was.
+-- The measure: n - i. Assumes nothing.
+use Prim.Native.Nat.{◌-◌}
+use native.Mathlib.Omega.{arith}
+use lib.Ieee.{Float}
+use Rattle.numbers.specs.Ops.{◌⊕◌, ◌⊗◌}
+use Rattle.arrays.specs.Part.{part}
+use Rattle.arrays.specs.Sums.{◌!◌}
+use Rattle.arrays.specs.Vectors.{zip_of}
+use Rattle.arrays.proofs.Turns.{Made, made_none, zip_more, made_all}
+use Rattle.arrays.proofs.vectors.scale_add.Given as goal
+
+abbrev pub invariant-loop-i : goal.invariant-loop-i
+invariant-loop-i l = Made l.initial.s l.out l.n (λ k. l.x ⊗ part l.initial.s l.a l.n ! k ⊕ part l.initial.s l.b l.n ! k) l.s l.i
+
+abbrev pub decreases-loop-i : goal.decreases-loop-i
+decreases-loop-i l = l.n - l.i

@@ -1,0 +1,21 @@
+use Prim.Native.Nat.{◌-◌}
+use native.Mathlib.Omega.{arith}
+use lib.Ieee.{Float}
+use Rattle.numbers.specs.Ops.{◌⊖◌}
+use Rattle.arrays.specs.Part.{part}
+use Rattle.arrays.specs.Sums.{◌!◌}
+use Rattle.arrays.specs.Vectors.{zip_of}
+use Rattle.arrays.proofs.Turns.{Made, made_none, zip_more, made_all}
+use Rattle.arrays.proofs.vectors.sub.Goals as goal
+
+pub loop-i-init : goal.loop-i-init
+loop-i-init c = made_none _ _ _ _
+
+pub loop-i-preserved : goal.loop-i-preserved
+loop-i-preserved c =
+    let g = c.args in
+    zip_more (λ (v w : Float). v ⊖ w) g.a g.b c.loop-i.invariant (omega arith) c.requires.clear c.requires.clear2
+
+pub returns : goal.returns
+unfolding zip_of
+returns c = made_all c.loop-i.invariant (omega arith)

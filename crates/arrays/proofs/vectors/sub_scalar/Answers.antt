@@ -1,0 +1,21 @@
+use Prim.Native.Nat.{◌-◌}
+use native.Mathlib.Omega.{arith}
+use lib.Ieee.{Float}
+use Rattle.numbers.specs.Ops.{◌⊖◌}
+use Rattle.arrays.specs.Part.{part}
+use Rattle.arrays.specs.Sums.{◌!◌}
+use Rattle.arrays.specs.Vectors.{map_of}
+use Rattle.arrays.proofs.Turns.{Made, made_none, map_more, made_all}
+use Rattle.arrays.proofs.vectors.sub_scalar.Goals as goal
+
+pub loop-i-init : goal.loop-i-init
+loop-i-init c = made_none _ _ _ _
+
+pub loop-i-preserved : goal.loop-i-preserved
+loop-i-preserved c =
+    let g = c.args in
+    map_more (λ (v : Float). v ⊖ g.x) g.a c.loop-i.invariant (omega arith) c.requires.clear
+
+pub returns : goal.returns
+unfolding map_of
+returns c = made_all c.loop-i.invariant (omega arith)

@@ -1,0 +1,16 @@
+-- `big_endian::write_bytes` meets its contract. The invariant: the first j bytes are written, and all else is as it was. The measure: how many are left.
+-- Assumes nothing.
+use mathlib.Core.Path.{◌≡◌, refl, ap, ◌∙◌}
+use mathlib.Core.List.{List}
+use Prim.Native.Nat.{ℕ, ◌+◌, ◌-◌, ◌≤◌}
+use native.Mathlib.Omega.{arith}
+use lib.ListN.{length, get_or, set, length-set}
+use Rattle.arrays.specs.Part.{put, tab}
+use Rattle.arrays.proofs.Part.{put-tab-none, put-tab-more, tab-all}
+use Rattle.big_endian.proofs.write_bytes.Given as goal
+
+abbrev pub invariant-loop-j : goal.invariant-loop-j
+invariant-loop-j l = (l.j ≤ length l.b) × (length l.out ≡ length l.initial.out) × (l.out ≡ put l.initial.out l.at (tab (λ i. get_or l.b i 0) l.j))
+
+abbrev pub decreases-loop-j : goal.decreases-loop-j
+decreases-loop-j l = length l.b - l.j

@@ -1,0 +1,66 @@
+-- `c_api::xangoravit_resume` meets its contract. Assumes nothing.
+use mathlib.Core.Path.{◌≡◌, sym, ◌∙◌}
+use mathlib.Core.Bool.{true}
+use borrow.Author.Rules.{rules}
+use borrow.Author.Tests.{not-true, not-false}
+use lib.ListN.{length}
+use Rattle.c_api.proofs.Calls.{Due, Lengths, lengths, resume-not-due, resume-due}
+use Rattle.c_api.proofs.xangoravit_resume.Goals as goal
+
+pub shape_of-answer-then-not-due : goal.shape_of-answer-then-not-due
+shape_of-answer-then-not-due c = c.refuse.auto.1.1.1.0
+
+pub returns-then-not-due : goal.returns-then-not-due
+returns-then-not-due c =
+    let g = c.args in
+    resume-not-due g.n g.p g.x.now g.y.now g.settings.now g.rec.now g.s.now g.w.now g.budget g.answer.now
+    (sym c.due.ensures ∙ c.if-not-due.true) c.counts_in.ensures c.refuse.ensures
+
+pub settings_from-requires : goal.settings_from-requires
+settings_from-requires c =
+    let is-due : let g = c.args in Due (length g.settings.now) (length g.rec.now) (length g.answer.now) ≡ true = sym c.due.ensures ∙ c.if-not-due.false in
+    let sized : let g = c.args in Lengths (length g.settings.now) (length g.rec.now) (length g.answer.now) = let g = c.args in
+    lengths (length g.settings.now) (length g.rec.now) (length g.answer.now) is-due in
+    sized.settings
+
+pub paused_from-requires : goal.paused_from-requires
+paused_from-requires c =
+    let is-due : let g = c.args in Due (length g.settings.now) (length g.rec.now) (length g.answer.now) ≡ true = sym c.due.ensures ∙ c.if-not-due.false in
+    let sized : let g = c.args in Lengths (length g.settings.now) (length g.rec.now) (length g.answer.now) = let g = c.args in
+    lengths (length g.settings.now) (length g.rec.now) (length g.answer.now) is-due in
+    sized.paused
+
+pub write_resumed-requires : goal.write_resumed-requires
+write_resumed-requires c =
+    let is-due : let g = c.args in Due (length g.settings.now) (length g.rec.now) (length g.answer.now) ≡ true = sym c.due.ensures ∙ c.if-not-due.false in
+    let sized : let g = c.args in Lengths (length g.settings.now) (length g.rec.now) (length g.answer.now) = let g = c.args in
+    lengths (length g.settings.now) (length g.rec.now) (length g.answer.now) is-due in
+    sized.paused
+
+pub write_answer-requires : goal.write_answer-requires
+write_answer-requires c =
+    let is-due : let g = c.args in Due (length g.settings.now) (length g.rec.now) (length g.answer.now) ≡ true = sym c.due.ensures ∙ c.if-not-due.false in
+    let sized : let g = c.args in Lengths (length g.settings.now) (length g.rec.now) (length g.answer.now) = let g = c.args in
+    lengths (length g.settings.now) (length g.rec.now) (length g.answer.now) is-due in
+    sized.answer
+
+pub shape_of-rec : goal.shape_of-rec
+shape_of-rec c = c.write_resumed.auto.1.1.1.0
+
+pub shape_of-s : goal.shape_of-s
+shape_of-s c = c.resume-o.auto.1.1.1.1.1.1.0
+
+pub shape_of-w : goal.shape_of-w
+shape_of-w c = c.resume-o.auto.1.1.1.1.1.1.1.0
+
+pub shape_of-answer : goal.shape_of-answer
+shape_of-answer c = c.write_answer.auto.1.1.0
+
+pub returns : goal.returns
+returns c =
+    let is-due : let g = c.args in Due (length g.settings.now) (length g.rec.now) (length g.answer.now) ≡ true = sym c.due.ensures ∙ c.if-not-due.false in
+    let g = c.args in
+    resume-due g.n g.p g.x.now g.y.now g.settings.now g.rec.now g.s.now g.w.now g.budget g.answer.now
+    c.resume-o.result c.resume-o.new.w c.resume-o.new.s is-due
+    c.settings_from.ensures c.paused_from.ensures c.resume-o.ensures
+    c.write_resumed.ensures c.resumed-t.ensures c.write_answer.ensures

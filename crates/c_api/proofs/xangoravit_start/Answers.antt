@@ -1,0 +1,54 @@
+-- `c_api::xangoravit_start` meets its contract. Assumes nothing.
+use mathlib.Core.Path.{◌≡◌, sym, ◌∙◌}
+use mathlib.Core.Bool.{true}
+use borrow.Author.Tests.{not-true, not-false}
+use lib.ListN.{length}
+use Rattle.c_api.proofs.Calls.{Due, Lengths, lengths, start-not-due, start-due}
+use Rattle.c_api.proofs.xangoravit_start.Goals as goal
+
+pub shape_of-answer-then-not-due : goal.shape_of-answer-then-not-due
+shape_of-answer-then-not-due c = c.refuse.auto.1.1.1.0
+
+pub returns-then-not-due : goal.returns-then-not-due
+returns-then-not-due c =
+    let g = c.args in
+    start-not-due g.n g.p g.x.now g.y.now g.settings.now g.rec.now g.s.now g.answer.now
+    (sym c.due.ensures ∙ c.if-not-due.true) c.no_counts.ensures c.refuse.ensures
+
+pub settings_from-requires : goal.settings_from-requires
+settings_from-requires c =
+    let is-due : let g = c.args in Due (length g.settings.now) (length g.rec.now) (length g.answer.now) ≡ true = sym c.due.ensures ∙ c.if-not-due.false in
+    let sized : let g = c.args in Lengths (length g.settings.now) (length g.rec.now) (length g.answer.now) = let g = c.args in
+    lengths (length g.settings.now) (length g.rec.now) (length g.answer.now) is-due in
+    sized.settings
+
+pub write_started-requires : goal.write_started-requires
+write_started-requires c =
+    let is-due : let g = c.args in Due (length g.settings.now) (length g.rec.now) (length g.answer.now) ≡ true = sym c.due.ensures ∙ c.if-not-due.false in
+    let sized : let g = c.args in Lengths (length g.settings.now) (length g.rec.now) (length g.answer.now) = let g = c.args in
+    lengths (length g.settings.now) (length g.rec.now) (length g.answer.now) is-due in
+    sized.paused
+
+pub write_answer-requires : goal.write_answer-requires
+write_answer-requires c =
+    let is-due : let g = c.args in Due (length g.settings.now) (length g.rec.now) (length g.answer.now) ≡ true = sym c.due.ensures ∙ c.if-not-due.false in
+    let sized : let g = c.args in Lengths (length g.settings.now) (length g.rec.now) (length g.answer.now) = let g = c.args in
+    lengths (length g.settings.now) (length g.rec.now) (length g.answer.now) is-due in
+    sized.answer
+
+pub shape_of-s : goal.shape_of-s
+shape_of-s c = c.start-o.auto.1.1.1.1.1.0
+
+pub shape_of-rec : goal.shape_of-rec
+shape_of-rec c = c.write_started.auto.1.0
+
+pub shape_of-answer : goal.shape_of-answer
+shape_of-answer c = c.write_answer.auto.1.1.0
+
+pub returns : goal.returns
+returns c =
+    let is-due : let g = c.args in Due (length g.settings.now) (length g.rec.now) (length g.answer.now) ≡ true = sym c.due.ensures ∙ c.if-not-due.false in
+    let g = c.args in
+    start-due g.n g.p g.x.now g.y.now g.settings.now g.rec.now g.s.now g.answer.now
+    c.start-o.result c.start-o.new.s is-due c.settings_from.ensures c.start-o.ensures
+    c.write_started.ensures c.started-t.ensures c.no_counts-2.ensures c.write_answer.ensures

@@ -1,0 +1,14 @@
+-- `column_moments::add_rows` meets its contract. The invariant: the first i rows from `at` on are added. The measure: left - i. Assumes nothing.
+use Prim.Native.Nat.{◌-◌, ◌≤◌}
+use mathlib.Core.Path.{◌≡◌, refl}
+use native.Mathlib.Omega.{arith}
+use Rattle.matrices.proofs.Lengths.{row_room}
+use Rattle.column_moments.specs.Added.{rows_added}
+use Rattle.column_moments.proofs.Pairs.{WithRows, rows_none, rows_on}
+use Rattle.column_moments.proofs.add_rows.Given as goal
+
+abbrev pub invariant-loop-i : goal.invariant-loop-i
+invariant-loop-i l = (l.i ≤ l.left) × WithRows l.initial.s l.sums l.squares l.m l.at l.cols l.i l.s
+
+abbrev pub decreases-loop-i : goal.decreases-loop-i
+decreases-loop-i l = l.left - l.i

@@ -1,0 +1,15 @@
+-- `design::eager::normal_row` meets its contract. The invariant: the first j entries, normalised and times gamma, are written, and all else is as it was.
+-- The measure: p - j. Assumes nothing.
+use Prim.Native.Nat.{◌-◌}
+use mathlib.Core.Bool.{true}
+use native.Mathlib.Omega.{arith}
+use Rattle.arrays.specs.Part.{part}
+use Rattle.arrays.proofs.Turns.{Made, made_none, made_more, made_all, kept}
+use Rattle.design.specs.Rows.{row_of}
+use Rattle.design.proofs.eager.normal_row.Given as goal
+
+abbrev pub invariant-loop-j : goal.invariant-loop-j
+invariant-loop-j l = Made l.initial.s l.out l.p (row_of true l.gamma l.m l.at (part l.initial.s l.ce l.p) (part l.initial.s l.sc l.p)) l.s l.j
+
+abbrev pub decreases-loop-j : goal.decreases-loop-j
+decreases-loop-j l = l.p - l.j

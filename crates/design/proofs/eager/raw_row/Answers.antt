@@ -1,0 +1,16 @@
+use Prim.Native.Nat.{◌-◌}
+use mathlib.Core.Bool.{false}
+use mathlib.Core.Path.{refl}
+use native.Mathlib.Omega.{arith}
+use Rattle.arrays.proofs.Turns.{Made, made_none, made_more, made_all}
+use Rattle.design.specs.Rows.{row_of}
+use Rattle.design.proofs.eager.raw_row.Goals as goal
+
+pub loop-j-init : goal.loop-j-init
+loop-j-init c = made_none _ _ _ _
+
+pub loop-j-preserved : goal.loop-j-preserved
+loop-j-preserved c = made_more c.loop-j.invariant _ c.loop-j-test.true refl
+
+pub returns : goal.returns
+returns c = made_all c.loop-j.invariant (omega arith)

@@ -1,0 +1,14 @@
+-- `duality::gap` meets its contract. Assumes nothing.
+use native.Mathlib.Omega.{arith}
+use Rattle.duality.proofs.Stores.{did-gap}
+use Rattle.duality.proofs.gap.Goals as goal
+
+pub residuals-gradphi-requires : goal.residuals-gradphi-requires
+residuals-gradphi-requires c =
+    let both = c.requires in
+    record { held = both.0; known = both.1 }
+
+pub returns : goal.returns
+returns c =
+    did-gap c.requires.held.room.laid c.args.t c.residuals-gradphi.ensures.makes c.residuals-gradphi.ensures.gradphi c.norm_inf-most.ensures c.shrink.ensures
+    c.primal_and_dual-o.ensures.primal_value c.primal_and_dual-o.ensures.dual_value

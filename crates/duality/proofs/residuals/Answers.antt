@@ -1,0 +1,20 @@
+-- `duality::residuals` meets its contract. Assumes nothing.
+use native.Mathlib.Omega.{arith}
+use Rattle.design_products.proofs.Lengths.{held_on}
+use Rattle.duality.proofs.Stores.{residuals-left, gradphi-made}
+use Rattle.duality.proofs.residuals.Goals as goal
+
+pub start_residuals-requires : goal.start_residuals-requires
+start_residuals-requires c =
+    let both = c.requires in
+    record { held = both.0; known = both.1 }
+
+pub transposed_both-requires : goal.transposed_both-requires
+transposed_both-requires c = (held_on c.requires.held (omega arith), omega arith)
+
+pub returns : goal.returns
+returns c =
+    let z = c.start_residuals.ensures in
+    let nu = c.times.ensures in
+    let both = c.transposed_both.ensures in
+    record { makes = residuals-left c.requires.held c.args.t z nu both.0; gradphi = gradphi-made c.requires.held c.args.t z nu _ _ (omega arith) both.1 }

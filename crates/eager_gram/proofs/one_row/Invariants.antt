@@ -1,0 +1,19 @@
+-- `eager_gram::one_row` meets its contract. The invariant: the first r rows of the lower triangle have one product more, and all else is as it was.
+-- The measure: p - r. Assumes nothing.
+use Prim.Native.Nat.{ℕ, ◌-◌}
+use mathlib.Core.Path.{ap, ◌∙◌}
+use native.Mathlib.Omega.{arith}
+use Rattle.arrays.specs.Part.{put}
+use Rattle.arrays.specs.Sums.{◌!◌}
+use Rattle.several.proofs.Added.{added-one}
+use Rattle.matrices.proofs.Lengths.{row_room}
+use Rattle.gram_panels.specs.Panels.{low, carry}
+use Rattle.gram_panels.proofs.Mats.{Striped, striped-none, striped-all}
+use Rattle.eager_gram.proofs.Added.{entry-row-more}
+use Rattle.eager_gram.proofs.one_row.Given as goal
+
+abbrev pub invariant-loop-r : goal.invariant-loop-r
+invariant-loop-r l = Striped l.initial.s l.g l.p low (carry l.initial.s l.g l.p l.at l.at l.p 1) l.p l.s l.r
+
+abbrev pub decreases-loop-r : goal.decreases-loop-r
+decreases-loop-r l = l.p - l.r

@@ -1,0 +1,16 @@
+-- `gram_panels::mirror` meets its contract. The invariant: the first k rows are mirrored to the right of the diagonal, and all else is as it was.
+-- The measure: p - k. Assumes nothing.
+use mathlib.Core.Path.{◌≡◌, refl, sym, ap, ◌∙◌}
+use Prim.Native.Nat.{ℕ, suc, ◌+◌, ◌-◌, ◌*◌, ◌≤◌, ◌<◌}
+use native.Mathlib.Nat.{mul-add, mul-one, suc-mul, add-mul}
+use native.Mathlib.Omega.{arith}
+use Rattle.matrices.proofs.Lengths.{row_room}
+use Rattle.gram_panels.proofs.Mats.{Striped, striped-none, striped-more, striped-all, beyond-rows}
+use Rattle.gram_panels.specs.Panels.{right_of, from_below}
+use Rattle.gram_panels.proofs.mirror.Given as goal
+
+abbrev pub invariant-loop-k : goal.invariant-loop-k
+invariant-loop-k l = Striped l.initial.s (l.ga + 1) (l.p + 1) (right_of l.p) (from_below l.initial.s l.ga l.p) l.p l.s l.k
+
+abbrev pub decreases-loop-k : goal.decreases-loop-k
+decreases-loop-k l = l.p - l.k

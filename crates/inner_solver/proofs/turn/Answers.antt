@@ -1,0 +1,28 @@
+-- `inner_solver::turn` meets its contract: each call writes slots that lie apart from those that it reads. Assumes nothing.
+use mathlib.Core.Path.{◌≡◌, ◌∙◌}
+use native.Mathlib.Omega.{arith}
+use lib.ListN.{length}
+use Rattle.layout.specs.Slots.{words}
+use Rattle.layout.proofs.Slots.{start}
+use Rattle.inner_solver.proofs.Rounds.{did-turn}
+use Rattle.inner_solver.proofs.turn.Goals as goal
+
+pub error-err-requires : goal.error-err-requires
+error-err-requires c =
+    let len : length c.precondition-2.new.s ≡ length c.args.s.now = c.precondition-2.auto.0 ∙ c.advance.auto.0 ∙ c.times-2.auto.0 ∙ c.times.auto.0 ∙ c.direct-bknum.auto.0 ∙ c.precondition.auto.0 in
+    let r = c.requires in
+    let l = r.laid.at-r in
+    let e = len in
+    omega arith
+
+pub shape_of-s : goal.shape_of-s
+shape_of-s c =
+    let len : length c.precondition-2.new.s ≡ length c.args.s.now = c.precondition-2.auto.0 ∙ c.advance.auto.0 ∙ c.times-2.auto.0 ∙ c.times.auto.0 ∙ c.direct-bknum.auto.0 ∙ c.precondition.auto.0 in
+    len
+
+pub returns : goal.returns
+unfolding words
+returns c =
+    did-turn c.requires.laid (start c.args.sh c.args.s.now c.requires.room)
+    c.precondition.ensures c.direct-bknum.ensures.0 c.direct-bknum.ensures.1 c.times.ensures c.times-2.ensures
+    c.advance.ensures c.precondition-2.ensures c.error-err.ensures c.answered.ensures

@@ -1,0 +1,25 @@
+-- `lazy_columns::add_four` meets its contract. The outer invariant: the first j sums have their four products, and all else is as it was; the inner: t is
+-- sum j with its first k products. The measures: p - j and 4 - k. Assumes nothing.
+use Prim.Native.Nat.{◌+◌, ◌-◌, ◌*◌, ◌≤◌}
+use mathlib.Core.Path.{◌≡◌, refl, sym, ap, ◌∙◌}
+use native.Mathlib.Omega.{arith}
+use Rattle.numbers.specs.Ops.{◌⊖◌, ◌⊗◌}
+use Rattle.arrays.specs.Part.{put}
+use Rattle.arrays.specs.Sums.{◌!◌, products}
+use Rattle.arrays.proofs.Folds.{fold-none, fold-turn}
+use Rattle.several.proofs.Several.{few}
+use Rattle.arrays.proofs.Turns.{Made, made_none, made_all}
+use Rattle.lazy_columns.proofs.ColumnSums.{four_sum, four-more, four-all}
+use Rattle.lazy_columns.proofs.add_four.Given as goal
+
+abbrev pub invariant-loop-k : goal.invariant-loop-k
+invariant-loop-k l = (l.k ≤ 4) × (l.t ≡ products l.initial.t (λ a. (l.m ! (l.at + a * l.p + l.j) ⊖ l.c) ⊗ l.by) (λ a. l.x ! a) l.k)
+
+abbrev pub decreases-loop-k : goal.decreases-loop-k
+decreases-loop-k l = 4 - l.k
+
+abbrev pub invariant-loop-j : goal.invariant-loop-j
+invariant-loop-j l = Made l.initial.s l.out l.p (four_sum l.m l.initial.s l.p l.ce l.rc l.initial.s l.out l.i l.x) l.s l.j
+
+abbrev pub decreases-loop-j : goal.decreases-loop-j
+decreases-loop-j l = l.p - l.j

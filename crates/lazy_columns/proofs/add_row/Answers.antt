@@ -1,0 +1,18 @@
+use Prim.Native.Nat.{◌-◌}
+use native.Mathlib.Omega.{arith}
+use Rattle.numbers.specs.Ops.{◌⊕◌, ◌⊗◌}
+use Rattle.arrays.specs.Part.{part}
+use Rattle.arrays.specs.Sums.{◌!◌}
+use Rattle.arrays.proofs.Turns.{Made, made_none, made_all}
+use Rattle.lazy_normalization.proofs.Entries.{row_of}
+use Rattle.lazy_columns.proofs.ColumnSums.{add-more}
+use Rattle.lazy_columns.proofs.add_row.Goals as goal
+
+pub loop-j-init : goal.loop-j-init
+loop-j-init c = made_none _ _ _ _
+
+pub loop-j-preserved : goal.loop-j-preserved
+loop-j-preserved c = add-more c.requires c.args.x c.loop-j.invariant c.loop-j-test.true c.normalise-y.ensures
+
+pub returns : goal.returns
+returns c = made_all c.loop-j.invariant (omega arith)

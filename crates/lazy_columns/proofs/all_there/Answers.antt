@@ -1,0 +1,28 @@
+use Prim.Native.Nat.{◌-◌, ◌≤◌}
+use mathlib.Core.Path.{◌≡◌, ap, ◌∙◌}
+use mathlib.Core.Logic.{⊎_elim}
+use native.Mathlib.Omega.{arith}
+use lib.Ieee.{Float, nan, eq}
+use Rattle.arrays.specs.Part.{part}
+use Rattle.arrays.proofs.Part.{get_or-part}
+use Rattle.arrays.specs.Sums.{plus0}
+use Rattle.lazy_columns.specs.ColumnSums.{all_there}
+use Rattle.lazy_columns.proofs.There.{none_yet, one-missing, one-there}
+use Rattle.lazy_columns.proofs.all_there.Goals as goal
+
+pub loop-j-init : goal.loop-j-init
+loop-j-init c = (omega arith, none_yet _)
+
+pub loop-j-preserved : goal.loop-j-preserved
+loop-j-preserved c =
+    let g = c.args in
+    let j = c.loop-j.j in
+    let read = ap (λ (y : Float). eq y plus0) (get_or-part g.s.now g.rc g.p j nan c.loop-j-test.true) in (
+      omega arith,
+      ⊎_elim (λ w. w.1 ∙ one-missing _ j (read ∙ w.0.taken)) (λ w. w.1 ∙ c.loop-j.invariant.1 ∙ one-there _ j (read ∙ w.0.left)) c.if-s-rc.branch,
+    )
+
+pub returns : goal.returns
+returns c =
+    let e : c.loop-j.j ≡ c.args.p = omega arith in
+    rw e at c.loop-j.invariant.1

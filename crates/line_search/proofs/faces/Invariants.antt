@@ -1,0 +1,20 @@
+-- `line_search::faces` meets its contract. The invariant: the pairs of the first i weights are written, the next goes to `at`, and all else is as it was.
+-- The measure: p - i. Assumes nothing.
+use Prim.Native.Nat.{◌-◌}
+use mathlib.Core.Bool.{cond}
+use native.Mathlib.Omega.{arith}
+use lib.Dec.{eqb}
+use lib.ListN.{length-set}
+use lib.Ieee.{neg}
+use Rattle.numbers.specs.Ops.{◌⊖◌}
+use Rattle.arrays.specs.Part.{part}
+use Rattle.arrays.specs.Sums.{◌!◌}
+use Rattle.line_search.specs.Search.{faces_of}
+use Rattle.line_search.proofs.Pairs.{Paired, paired_none, paired-more, apart, paired-all}
+use Rattle.line_search.proofs.faces.Given as goal
+
+abbrev pub invariant-loop-i : goal.invariant-loop-i
+invariant-loop-i l = Paired l.initial.s l.out l.p (λ k c. cond (eqb c 0) (part l.initial.s l.w l.p ! k ⊖ part l.initial.s l.u l.p ! k) (neg (part l.initial.s l.w l.p ! k) ⊖ part l.initial.s l.u l.p ! k)) l.s l.at l.i
+
+abbrev pub decreases-loop-i : goal.decreases-loop-i
+decreases-loop-i l = l.p - l.i

@@ -1,0 +1,28 @@
+use Prim.Native.Nat.{◌≤◌, ◌-◌}
+use mathlib.Core.Path.{◌≡◌, sym, ◌∙◌}
+use mathlib.Core.Bool.{true}
+use native.Mathlib.Omega.{arith}
+use lib.Ieee.{Float, nan, inf, div, neg, of_bits}
+use Rattle.numbers.specs.Order.{maximum_of}
+use Rattle.arrays.specs.Part.{part}
+use Rattle.arrays.proofs.Part.{get_or-part}
+use Rattle.arrays.specs.Sums.{◌!◌, fold_to}
+use Rattle.arrays.proofs.Folds.{fold-none, fold-turn}
+use Rattle.line_search.specs.Search.{largest_of}
+use Rattle.line_search.proofs.largest.Goals as goal
+
+pub loop-i-init : goal.loop-i-init
+unfolding div neg of_bits
+loop-i-init c = (omega arith, sym (fold-none _ _ _))
+
+pub loop-i-preserved : goal.loop-i-preserved
+loop-i-preserved c =
+    let g = c.args in
+    let e = get_or-part g.s.now g.a g.n c.loop-i.i nan (omega arith) in
+    (omega arith, c.maximum-t.ensures ∙ fold-turn _ _ _ c.loop-i.i c.loop-i.t _ c.loop-i.invariant.1 (sym e))
+
+pub returns : goal.returns
+unfolding largest_of
+returns c =
+    let e : c.loop-i.i ≡ c.args.n = omega arith in
+    rw e at c.loop-i.invariant.1

@@ -1,0 +1,14 @@
+-- `lone_rounds::divide` meets its contract. The invariant: the first i quotients are written, and all else is as it was. The measure: n - i. Assumes nothing.
+use Prim.Native.Nat.{◌-◌, ◌*◌}
+use native.Mathlib.Omega.{arith}
+use Rattle.arrays.specs.Part.{part}
+use Rattle.arrays.specs.Sums.{◌!◌}
+use Rattle.arrays.proofs.Turns.{Made, made_none, zip_more, made_all}
+use Rattle.lone_rounds.specs.Lone.{over_of, divided_of}
+use Rattle.lone_rounds.proofs.divide.Given as goal
+
+abbrev pub invariant-loop-i : goal.invariant-loop-i
+invariant-loop-i l = Made l.initial.s l.out l.n (λ k. over_of (part l.initial.s l.b l.n ! k) (part l.initial.s (7 * l.n) l.n ! k)) l.s l.i
+
+abbrev pub decreases-loop-i : goal.decreases-loop-i
+decreases-loop-i l = l.n - l.i

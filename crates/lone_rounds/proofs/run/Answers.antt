@@ -1,0 +1,44 @@
+-- `lone_rounds::run` meets its contract: the rounds begin on +0 but for the start, and the last `fill` leaves +0 again. Assumes nothing.
+use mathlib.Core.Path.{◌≡◌, ◌∙◌}
+use native.Mathlib.Omega.{arith}
+use lib.ListN.{length}
+use Rattle.lone_rounds.proofs.Running.{ran}
+use Rattle.lone_rounds.proofs.run.Goals as goal
+
+pub overflow_mul-all : goal.overflow_mul-all
+overflow_mul-all c = omega (arith, c.requires.loops.small)
+
+pub fill-requires : goal.fill-requires
+fill-requires c = omega (arith, c.requires.loops.room)
+
+pub copy_from-requires : goal.copy_from-requires
+copy_from-requires c =
+    let r = c.requires in
+    record { n_in_bounds = omega (arith, r.loops.room, r.start, c.fill.auto.0); n_in_bounds_2 = omega (arith, r.loops.room, r.start, c.fill.auto.0) }
+
+pub begin-bnrm-requires : goal.begin-bnrm-requires
+begin-bnrm-requires c =
+    let r = c.requires in
+    record { loops = omega (arith, r.loops, r.right, c.fill.auto.0, c.copy_from.auto.0); b_len = omega (arith, r.loops, r.right, c.fill.auto.0, c.copy_from.auto.0) }
+
+pub rounds-err-requires : goal.rounds-err-requires
+rounds-err-requires c =
+    let r = c.requires in
+    omega (arith, r.loops, c.fill.auto.0, c.copy_from.auto.0, c.begin-bnrm.auto.1.1.1.0)
+
+pub copy_from-requires-2 : goal.copy_from-requires-2
+copy_from-requires-2 c =
+    let long : length c.rounds-err.new.s ≡ length c.args.s.now = c.rounds-err.auto.1.1.1.1.1.0 ∙ c.begin-bnrm.auto.1.1.1.0 ∙ c.copy_from.auto.0 ∙ c.fill.auto.0 in
+    let r = c.requires in
+    record { n_in_bounds = omega (arith, r.loops.room, r.start, long); n_in_bounds_2 = omega (arith, r.loops.room, r.start, long) }
+
+pub fill-requires-2 : goal.fill-requires-2
+fill-requires-2 c =
+    let long : length c.rounds-err.new.s ≡ length c.args.s.now = c.rounds-err.auto.1.1.1.1.1.0 ∙ c.begin-bnrm.auto.1.1.1.0 ∙ c.copy_from.auto.0 ∙ c.fill.auto.0 in
+    omega (arith, c.requires.loops.room, long)
+
+pub returns : goal.returns
+returns c =
+    let long : length c.rounds-err.new.s ≡ length c.args.s.now = c.rounds-err.auto.1.1.1.1.1.0 ∙ c.begin-bnrm.auto.1.1.1.0 ∙ c.copy_from.auto.0 ∙ c.fill.auto.0 in
+    ran c.requires c.args.tol c.fill.ensures c.copy_from.ensures c.begin-bnrm.ensures c.rounds-err.ensures long c.copy_from-2.ensures
+    c.fill-2.ensures

@@ -1,0 +1,30 @@
+-- `matrices::products::eight_columns` meets its contract. The outer invariant: each of the eight sums has its first i terms, and the next of the first one
+-- stands at `at`; the inner: the first k have one more. The measures: rows - i and 8 - k. Assumes nothing.
+use Prim.Native.Nat.{ℕ, ◌+◌, ◌-◌, ◌*◌, ◌≤◌}
+use mathlib.Core.Path.{◌≡◌, refl}
+use mathlib.Core.List.{List}
+use native.Mathlib.Omega.{arith}
+use lib.Ieee.{Float, nan}
+use Rattle.numbers.specs.Ops.{◌⊗◌}
+use Rattle.arrays.specs.Part.{part, tab}
+use Rattle.arrays.proofs.Part.{get_or-part}
+use Rattle.arrays.specs.Sums.{◌!◌}
+use Rattle.several.proofs.Several.{Several, several-none, several-more, several-turn, several-all}
+use Rattle.matrices.proofs.Lengths.{row_room, next_row}
+use Rattle.matrices.proofs.products.eight_columns.Given as goal
+
+-- the terms of sum k
+abbrev pub terms : List Float → ℕ → ℕ → List Float → ℕ → ℕ → Float
+terms m cols j xs k i = m ! (i * cols + (j + k)) ⊗ xs ! i
+
+abbrev pub invariant-loop-k : goal.invariant-loop-k
+invariant-loop-k l = Several 8 (terms l.m l.cols l.j (part l.s l.v l.rows)) l.i l.t l.k
+
+abbrev pub decreases-loop-k : goal.decreases-loop-k
+decreases-loop-k l = 8 - l.k
+
+abbrev pub invariant-loop-i : goal.invariant-loop-i
+invariant-loop-i l = (l.i ≤ l.rows) × (l.at ≡ l.i * l.cols + l.j) × Several 8 (terms l.m l.cols l.j (part l.s l.v l.rows)) l.i l.t 0
+
+abbrev pub decreases-loop-i : goal.decreases-loop-i
+decreases-loop-i l = l.rows - l.i

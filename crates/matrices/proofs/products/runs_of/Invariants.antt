@@ -1,0 +1,19 @@
+-- `matrices::products::runs_of` meets its contract. The invariant: row i begins at `at`, and of each run the products of the first i rows are written.
+-- The measure: e - i. Assumes nothing.
+use Prim.Native.Nat.{◌+◌, ◌-◌, ◌*◌}
+use mathlib.Core.Path.{◌≡◌}
+use native.Mathlib.Nat.{zero-add}
+use native.Mathlib.Omega.{arith}
+use Rattle.arrays.specs.Part.{part}
+use Rattle.several.proofs.Runs.{Runs, runs_none, runs-all, but-kept}
+use Rattle.several.proofs.Rows.{run-rows}
+use Rattle.matrices.specs.Products.{row_product, rows_of}
+use Rattle.matrices.proofs.Lengths.{row_room, next_row}
+use Rattle.matrices.proofs.Rows.{run_more}
+use Rattle.matrices.proofs.products.runs_of.Given as goal
+
+abbrev pub invariant-loop-i : goal.invariant-loop-i
+invariant-loop-i l = (l.at ≡ 0 + l.i * l.cols) × Runs l.initial.s l.out 8 l.e (row_product l.m l.cols (part l.initial.s l.v l.cols)) l.s l.i 0
+
+abbrev pub decreases-loop-i : goal.decreases-loop-i
+decreases-loop-i l = l.e - l.i

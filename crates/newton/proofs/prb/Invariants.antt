@@ -1,0 +1,15 @@
+-- `newton::prb` meets its contract. The invariant: the first i elements are written, and all else is as it was. The measure: p - i. Assumes nothing.
+use Prim.Native.Nat.{◌-◌}
+use native.Mathlib.Omega.{arith}
+use Rattle.arrays.specs.Part.{part}
+use Rattle.arrays.specs.Sums.{◌!◌}
+use Rattle.arrays.specs.Vectors.{map_of}
+use Rattle.arrays.proofs.Turns.{Made, made_none, map_more, made_all}
+use Rattle.newton.specs.Newton.{prb_at}
+use Rattle.newton.proofs.prb.Given as goal
+
+abbrev pub invariant-loop-i : goal.invariant-loop-i
+invariant-loop-i l = Made l.initial.s l.out l.p (λ k. prb_at (part l.initial.s l.d1 l.p ! k)) l.s l.i
+
+abbrev pub decreases-loop-i : goal.decreases-loop-i
+decreases-loop-i l = l.p - l.i

@@ -1,0 +1,23 @@
+use Prim.Native.Nat.{◌-◌}
+use native.Mathlib.Omega.{arith}
+use lib.Ieee.{Float}
+use Rattle.numbers.specs.Ops.{◌⊖◌, ◌⊗◌}
+use Rattle.arrays.specs.Part.{part}
+use Rattle.arrays.specs.Sums.{◌!◌}
+use Rattle.arrays.proofs.Turns.{Made, made_none, made_all}
+use Rattle.newton.specs.Newton.{prs_of}
+use Rattle.newton.proofs.Three.{three-more}
+use Rattle.newton.proofs.prs.Goals as goal
+
+pub loop-i-init : goal.loop-i-init
+loop-i-init c = made_none _ _ _ _
+
+pub loop-i-preserved : goal.loop-i-preserved
+loop-i-preserved c =
+    let g = c.args in
+    three-more (λ (v a b : Float). v ⊗ a ⊖ b ⊗ b) g.prb g.d1 g.d2 c.loop-i.invariant (omega arith)
+    c.requires.clear c.requires.clear2 c.requires.clear3
+
+pub returns : goal.returns
+unfolding prs_of
+returns c = made_all c.loop-i.invariant (omega arith)

@@ -1,0 +1,15 @@
+-- `newton::sum_of_squares` meets its contract. The invariant: the first i elements are written, and all else is as it was. The measure: p - i. Assumes nothing.
+use Prim.Native.Nat.{◌-◌}
+use native.Mathlib.Omega.{arith}
+use Rattle.arrays.specs.Part.{part}
+use Rattle.arrays.specs.Sums.{◌!◌}
+use Rattle.arrays.specs.Vectors.{zip_of}
+use Rattle.arrays.proofs.Turns.{Made, made_none, zip_more, made_all}
+use Rattle.newton.specs.Newton.{sum_of_squares}
+use Rattle.newton.proofs.sum_of_squares.Given as goal
+
+abbrev pub invariant-loop-i : goal.invariant-loop-i
+invariant-loop-i l = Made l.initial.s l.out l.p (λ k. sum_of_squares l.t (part l.initial.s l.a l.p ! k) (part l.initial.s l.b l.p ! k)) l.s l.i
+
+abbrev pub decreases-loop-i : goal.decreases-loop-i
+decreases-loop-i l = l.p - l.i

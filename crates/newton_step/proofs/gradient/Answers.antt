@@ -1,0 +1,33 @@
+-- `newton_step::gradient` meets its contract. Assumes nothing.
+use mathlib.Core.Path.{◌≡◌, ◌∙◌}
+use native.Mathlib.Omega.{arith}
+use lib.ListN.{length}
+use Rattle.layout.specs.Slots.{words}
+use Rattle.layout.proofs.Slots.{start}
+use Rattle.newton_step.proofs.Stores.{gradient-left}
+use Rattle.newton_step.proofs.gradient.Goals as goal
+
+pub gradphi-requires : goal.gradphi-requires
+gradphi-requires c =
+    let both = c.requires in
+    record { held = both.0; gradphi = both.1 }
+
+pub overflow_add-l : goal.overflow_add-l
+overflow_add-l c =
+    let r = c.requires.held.room in
+    let l = r.laid.at-grad in
+    let f = c.good.1.1.1.0.0 in
+    omega arith
+
+pub negated_g2-requires : goal.negated_g2-requires
+negated_g2-requires c =
+    let len : length c.negated.new.s ≡ length c.args.s.now = c.negated.auto.0 ∙ c.g1.auto.0 ∙ c.gradphi.auto.1.1.1.0 in
+    let r = c.requires.held.room in
+    let e = len in
+    omega arith
+
+pub returns : goal.returns
+unfolding words
+returns c =
+    gradient-left c.requires.held.room.laid (start c.args.sh c.args.s.now c.requires.held.room.room) c.args.tm c.args.m.now c.args.t
+    c.gradphi.ensures c.g1.ensures c.negated.ensures c.negated_g2.ensures

@@ -1,0 +1,60 @@
+-- `paused_fit::fit_in_pieces` meets its contract: the third budget alone is 5,100·M. Assumes nothing.
+use Prim.Native.Nat.{ℕ, ◌*◌}
+use native.Mathlib.Omega.{arith}
+use mathlib.Core.Path.{◌≡◌, ◌∙◌}
+use mathlib.Core.List.{[], ◌∷◌}
+use lib.ListN.{length}
+use Rattle.pause.specs.Progress.{total}
+use Rattle.promises.specs.Chain.{Enough}
+use Rattle.whole_fit.proofs.Returns.{start-refuses, many-weights, few, has_ended, settles}
+use Rattle.paused_fit.proofs.fit_in_pieces.Goals as goal
+
+enough : (M first second : ℕ) → Enough M (first ∷ second ∷ 5100 * M ∷ [])
+unfolding total
+enough M first second = omega arith
+
+pub enum_known-fresh : goal.enum_known-fresh
+enum_known-fresh c = c.in-Ready.keys1
+
+pub overflow_mul-st : goal.overflow_mul-st
+overflow_mul-st c =
+    let g = c.args in
+    omega (arith, few g.n g.p g.x.now g.y.now g.st g.s.now g.w.now c.start_whole.result c.start_whole.ensures c.in-Ready.is)
+
+pub resumed-requires : goal.resumed-requires
+resumed-requires c =
+    let g = c.args in
+    many-weights g.n g.p g.x.now g.y.now g.st g.s.now g.w.now c.start_whole.result c.start_whole.ensures c.in-Ready.is
+
+pub settled-requires : goal.settled-requires
+settled-requires c =
+    let g = c.args in
+    has_ended g.n g.p g.x.now g.y.now g.st g.s.now g.w.now c.start_whole.result c.start_whole.ensures
+    c.in-Ready.is c.resumed.result (enough g.st.max_iter g.first g.second) c.resumed.ensures
+
+pub enum_known-r : goal.enum_known-r
+enum_known-r c = c.in-Ready.keys2
+
+pub shape_of-s-in-Ready : goal.shape_of-s-in-Ready
+shape_of-s-in-Ready c =
+    let scratch : length c.start_whole.new.s ≡ length c.args.s.now = c.start_whole.auto.1.1.1.1.1.0 in
+    c.resumed.auto.1.1.1.1.1.1.0 ∙ scratch
+
+pub shape_of-w : goal.shape_of-w
+shape_of-w c = c.resumed.auto.1.1.1.1.1.1.1.0
+
+pub returns-in-Ready : goal.returns-in-Ready
+returns-in-Ready c =
+    let g = c.args in
+    settles g.n g.p g.x.now g.y.now g.st g.s.now g.w.now c.start_whole.result c.start_whole.ensures
+    c.in-Ready.is c.resumed.result (enough g.st.max_iter g.first g.second) c.resumed.ensures c.settled.ensures
+
+pub shape_of-s-in-Refused : goal.shape_of-s-in-Refused
+shape_of-s-in-Refused c =
+    let scratch : length c.start_whole.new.s ≡ length c.args.s.now = c.start_whole.auto.1.1.1.1.1.0 in
+    scratch
+
+pub returns-in-Refused : goal.returns-in-Refused
+returns-in-Refused c =
+    let g = c.args in
+    start-refuses g.n g.p g.x.now g.y.now g.st g.s.now g.w.now c.start_whole.result c.start_whole.ensures c.in-Refused.is c.refused.ensures

@@ -1,0 +1,66 @@
+-- `paused_fit::resumed` meets its contract: its calls are a chain, of one, two or three links. Assumes nothing.
+use mathlib.Core.Path.{◌≡◌, refl, ap, ◌∙◌}
+use lib.ListN.{length}
+use Rattle.elastic_net.specs.ElasticNet.{said}
+use Rattle.promises.specs.Chain.{last, more}
+use Rattle.paused_fit.proofs.Pending.{not-pending}
+use Rattle.paused_fit.proofs.resumed.Goals as goal
+
+pub enum_told-1 : goal.enum_told-1
+enum_told-1 c = c.in-Pending.keys1
+
+pub shape_of-s-in_default : goal.shape_of-s-in_default
+shape_of-s-in_default c =
+    let scratch₁ : length c.resume-r.new.s ≡ length c.args.s.now = c.resume-r.auto.1.1.1.1.1.1.0 in
+    scratch₁
+
+pub shape_of-w-in_default : goal.shape_of-w-in_default
+shape_of-w-in_default c =
+    let weights₁ : length c.resume-r.new.w ≡ length c.args.w.now = c.resume-r.auto.1.1.1.1.1.1.1.0 in
+    weights₁
+
+pub returns-in_default : goal.returns-in_default
+returns-in_default c = last _ c.requires c.resume-r.ensures (λ h. absurd (not-pending c.resume-r.result.answer c.in-Pending.keys2 h))
+
+pub enum_told-in-Pending-a : goal.enum_told-in-Pending-a
+enum_told-in-Pending-a c = c.in-Pending-a.keys1
+
+pub shape_of-s-in_default-a : goal.shape_of-s-in_default-a
+shape_of-s-in_default-a c =
+    let scratch₁ : length c.resume-r.new.s ≡ length c.args.s.now = c.resume-r.auto.1.1.1.1.1.1.0 in
+    let scratch₂ : length c.resume-r-2.new.s ≡ length (c).args.s.now = c.resume-r-2.auto.1.1.1.1.1.1.0 ∙ scratch₁ in
+    scratch₂
+
+pub shape_of-w-in_default-a : goal.shape_of-w-in_default-a
+shape_of-w-in_default-a c =
+    let weights₁ : length c.resume-r.new.w ≡ length c.args.w.now = c.resume-r.auto.1.1.1.1.1.1.1.0 in
+    let weights₂ : length c.resume-r-2.new.w ≡ length (c).args.w.now = c.resume-r-2.auto.1.1.1.1.1.1.1.0 ∙ weights₁ in
+    weights₂
+
+pub returns-in_default-a : goal.returns-in_default-a
+returns-in_default-a c =
+    let weights₁ : length c.resume-r.new.w ≡ length c.args.w.now = c.resume-r.auto.1.1.1.1.1.1.1.0 in
+    let l = c.requires in
+    more _ l c.resume-r.result _ _ c.resume-r.ensures (ap said c.in-Pending.is)
+    (last _ (weights₁ ∙ l) c.resume-r-2.ensures (λ h. absurd (not-pending c.resume-r-2.result.answer c.in-Pending-a.keys2 h)))
+
+pub shape_of-s : goal.shape_of-s
+shape_of-s c =
+    let scratch₁ : length c.resume-r.new.s ≡ length c.args.s.now = c.resume-r.auto.1.1.1.1.1.1.0 in
+    let scratch₂ : length c.resume-r-2.new.s ≡ length (c).args.s.now = c.resume-r-2.auto.1.1.1.1.1.1.0 ∙ scratch₁ in
+    c.resume.auto.1.1.1.1.1.1.0 ∙ scratch₂
+
+pub shape_of-w : goal.shape_of-w
+shape_of-w c =
+    let weights₁ : length c.resume-r.new.w ≡ length c.args.w.now = c.resume-r.auto.1.1.1.1.1.1.1.0 in
+    let weights₂ : length c.resume-r-2.new.w ≡ length (c).args.w.now = c.resume-r-2.auto.1.1.1.1.1.1.1.0 ∙ weights₁ in
+    c.resume.auto.1.1.1.1.1.1.1.0 ∙ weights₂
+
+pub returns : goal.returns
+returns c =
+    let weights₁ : length c.resume-r.new.w ≡ length c.args.w.now = c.resume-r.auto.1.1.1.1.1.1.1.0 in
+    let weights₂ : length c.resume-r-2.new.w ≡ length (c).args.w.now = c.resume-r-2.auto.1.1.1.1.1.1.1.0 ∙ weights₁ in
+    let l = c.requires in
+    more _ l c.resume-r.result _ _ c.resume-r.ensures (ap said c.in-Pending.is)
+    (more _ (weights₁ ∙ l) c.resume-r-2.result _ _ c.resume-r-2.ensures (ap said c.in-Pending-a.is)
+    (last _ (weights₂ ∙ l) c.resume.ensures (λ h. refl)))

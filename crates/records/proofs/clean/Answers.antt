@@ -1,0 +1,6 @@
+-- `records::clean` meets its contract. Assumes nothing.
+use borrow.Author.Rules.{rules}
+use Rattle.records.proofs.clean.Goals as goal
+
+pub returns : goal.returns
+returns c = rw c.clean_scalars-a.ensures

@@ -1,0 +1,29 @@
+-- `several::eight` meets its contract. The outer invariant: each of the eight sums has its first i terms; the inner: the first k have one more.
+-- The measures: n - i and 8 - k. Assumes nothing.
+use Prim.Native.Nat.{ℕ, ◌+◌, ◌-◌, ◌*◌, ◌≤◌}
+use mathlib.Core.Path.{◌≡◌, refl}
+use mathlib.Core.List.{List}
+use native.Mathlib.Omega.{arith}
+use lib.Ieee.{Float, nan}
+use Rattle.numbers.specs.Ops.{◌⊗◌}
+use Rattle.arrays.specs.Part.{part, tab}
+use Rattle.arrays.proofs.Part.{get_or-part}
+use Rattle.arrays.specs.Sums.{◌!◌, product_of}
+use Rattle.several.proofs.Several.{Several, several-none, several-more, several-turn, several-all, few}
+use Rattle.several.proofs.eight.Given as goal
+
+-- the terms of sum k
+abbrev pub terms : List Float → ℕ → ℕ → List Float → ℕ → ℕ → ℕ → ℕ → Float
+terms x a apart y b n k i = part x (a + k * apart) n ! i ⊗ part y b n ! i
+
+abbrev pub invariant-loop-k : goal.invariant-loop-k
+invariant-loop-k l = Several 8 (terms l.x l.a l.apart l.y l.b l.n) l.i l.t l.k
+
+abbrev pub decreases-loop-k : goal.decreases-loop-k
+decreases-loop-k l = 8 - l.k
+
+abbrev pub invariant-loop-i : goal.invariant-loop-i
+invariant-loop-i l = (l.i ≤ l.n) × Several 8 (terms l.x l.a l.apart l.y l.b l.n) l.i l.t 0
+
+abbrev pub decreases-loop-i : goal.decreases-loop-i
+decreases-loop-i l = l.n - l.i

@@ -1,0 +1,17 @@
+-- `several::put_eight` meets its contract. The invariant: the first k numbers are written.
+-- The measure: 8 - k. Assumes nothing.
+use Prim.Native.Nat.{◌-◌, ◌≤◌}
+use mathlib.Core.Path.{◌≡◌, refl}
+use native.Mathlib.Numerals.{add-one}
+use native.Mathlib.Omega.{arith}
+use lib.ListN.{length, length-set}
+use Rattle.arrays.specs.Sums.{◌!◌}
+use Rattle.several.specs.Several.{spread_of}
+use Rattle.several.proofs.Several.{few}
+use Rattle.several.proofs.put_eight.Given as goal
+
+abbrev pub invariant-loop-k : goal.invariant-loop-k
+invariant-loop-k l = (l.k ≤ 8) × (length l.s ≡ length l.initial.s) × (l.s ≡ spread_of l.initial.s l.out l.apart (λ i. l.t ! i) l.k)
+
+abbrev pub decreases-loop-k : goal.decreases-loop-k
+decreases-loop-k l = 8 - l.k

@@ -1,0 +1,37 @@
+use mathlib.Core.Path.{◌≡◌, sym, ◌∙◌}
+use mathlib.Core.Logic.{⊎_elim}
+use Prim.Native.Nat.{◌+◌, ◌-◌, ◌*◌, ◌≤◌}
+use native.Mathlib.Omega.{arith}
+use borrow.Author.Tests.{not-true, not-false}
+use Rattle.matrices.proofs.Lengths.{row_room}
+use Rattle.sheet.proofs.Remaining.{place, none, place-next, place-most}
+use Rattle.sheet.proofs.count_remaining.Goals as goal
+
+pub loop-i-init : goal.loop-i-init
+loop-i-init c = (omega arith, none _ _)
+
+pub is_cancelled-requires : goal.is_cancelled-requires
+is_cancelled-requires c =
+    let g = c.args in
+    omega (arith, row_room c.loop-i.i g.n (12 + 8 * g.p) c.loop-i-test.true)
+
+pub overflow_add-left : goal.overflow_add-left
+overflow_add-left c =
+    let g = c.args in
+    omega (arith, place-most g.b.now g.p c.loop-i.i)
+
+pub loop-i-preserved : goal.loop-i-preserved
+loop-i-preserved c =
+    let g = c.args in
+    let e = c.is_cancelled.ensures in (
+      omega arith,
+      ⊎_elim
+          (λ w. w.1 ∙ rw c.loop-i.invariant.1 (sym (place-next g.b.now g.p c.loop-i.i _ (sym e ∙ not-true _ w.0.taken))))
+          (λ w. w.1 ∙ c.loop-i.invariant.1 ∙ sym (place-next g.b.now g.p c.loop-i.i _ (sym e ∙ not-false _ w.0.left)))
+          c.if-not-is_cancelled.branch,
+    )
+
+pub returns : goal.returns
+returns c =
+    let e : c.loop-i.i ≡ c.args.n = omega arith in
+    rw e at c.loop-i.invariant.1

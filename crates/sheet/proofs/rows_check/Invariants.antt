@@ -1,0 +1,15 @@
+-- `sheet::rows_check` meets its contract. The invariant: the answer is that of the rows that are left, from i on. The measure: n - i. Assumes nothing.
+use mathlib.Core.Path.{◌≡◌, sym, ◌∙◌}
+use Prim.Native.Nat.{◌+◌, ◌-◌, ◌*◌, ◌≤◌}
+use native.Mathlib.Omega.{arith}
+use borrow.Author.Rules.{rules}
+use Rattle.matrices.proofs.Lengths.{row_room}
+use Rattle.sheet.specs.Rows.{rows_from}
+use Rattle.sheet.proofs.Rows.{row-passed, row-refused, none_left}
+use Rattle.sheet.proofs.rows_check.Given as goal
+
+abbrev pub invariant-loop-i : goal.invariant-loop-i
+invariant-loop-i l = (l.i ≤ l.n) × (rows_from l.b l.p l.n 0 ≡ rows_from l.b l.p (l.n - l.i) l.i)
+
+abbrev pub decreases-loop-i : goal.decreases-loop-i
+decreases-loop-i l = l.n - l.i

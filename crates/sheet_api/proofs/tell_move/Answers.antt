@@ -1,0 +1,6 @@
+-- `sheet_api::tell_move` meets its contract. Assumes nothing.
+use native.Mathlib.Omega.{arith}
+use Rattle.sheet_api.proofs.tell_move.Goals as goal
+
+pub returns : goal.returns
+returns c = rw (← c.check_moved.ensures) (c.answer.ensures.value, (c.write_moved.ensures, c.answer.ensures.place_after))

@@ -1,0 +1,8 @@
+-- `sheet_words::answer_read` meets its contract. Assumes nothing.
+use borrow.Author.Rules.{rules}
+use Rattle.sheet_words.proofs.answer_read.Goals as goal
+
+pub returns : goal.returns
+returns c =
+    let k = c.check_in in
+    rw (← k.ensures) c.answer.ensures

@@ -1,0 +1,7 @@
+-- `solver_round::phi_at` meets its contract. Assumes nothing.
+use native.Mathlib.Omega.{arith}
+use Rattle.solver_round.proofs.Returns.{phi-is}
+use Rattle.solver_round.proofs.phi_at.Goals as goal
+
+pub returns : goal.returns
+returns c = phi-is c.requires.laid c.args.s.now c.args.tm c.args.t c.dot-zz.ensures c.sum-sumu.ensures c.sumlogneg-logs.ensures c.phi.ensures

@@ -1,0 +1,45 @@
+-- `stages::searching_step` meets its contract: a trial that is not taken halves or, as the hundredth, fails; else the next round or the limit follows.
+-- Assumes nothing.
+use native.Mathlib.Omega.{arith}
+use borrow.Author.Rules.{rules}
+use Rattle.pause.specs.Parts.{trial+}
+use Rattle.records.specs.Record.{counts_of}
+use Rattle.stages.proofs.Moves.{searching-again, searching-none, searching-next, searching-limit}
+use Rattle.stages.proofs.searching_step.Goals as goal
+
+pub attempt-o-requires : goal.attempt-o-requires
+attempt-o-requires c = c.requires.held
+
+pub returns-then-j-lt100 : goal.returns-then-j-lt100
+unfolding trial+
+returns-then-j-lt100 c =
+    let s = c.args in
+    searching-again s.sh s.tm s.tol _ s.limit s.r (counts_of s.c) s.a _ s.j c.attempt-o.ensures
+    c.in_default.is c.scalars_of-halved.ensures c.if-j-lt100.true
+
+pub returns-in_default : goal.returns-in_default
+unfolding trial+
+returns-in_default c =
+    let s = c.args in
+    searching-none s.sh s.tm s.tol _ s.limit s.r (counts_of s.c) s.a _ s.j c.attempt-o.ensures
+    c.in_default.is c.if-j-lt100.false
+
+pub overflow_add-r : goal.overflow_add-r
+overflow_add-r c = let p = c.requires.searching_in in omega (arith, p.0.inside, p.1)
+
+pub overflow_add-result-then-r-limit : goal.overflow_add-result-then-r-limit
+overflow_add-result-then-r-limit c = let p = c.requires.searching_in in omega (arith, p.0.inside, p.1)
+
+pub returns-then-r-limit : goal.returns-then-r-limit
+unfolding trial+
+returns-then-r-limit c =
+    let s = c.args in
+    searching-next s.sh s.tm s.tol _ s.limit s.r (counts_of s.c) s.a _ s.j c.attempt-o.ensures
+    c.in-Accept.is c.if-r-limit.true
+
+pub returns : goal.returns
+unfolding trial+
+returns c =
+    let s = c.args in
+    searching-limit s.sh s.tm s.tol _ s.limit s.r (counts_of s.c) s.a _ s.j c.attempt-o.ensures
+    c.in-Accept.is c.if-r-limit.false

@@ -1,0 +1,13 @@
+-- `stored::words::digits` meets its contract. The loop's invariant: the k digits passed make n, which is below 16 ^ k, and the word
+-- is what the digits that are left write behind n. Assumes nothing.
+use Rattle.std.proofs.Common.{◌≡◌, ℕ, suc, ◌+◌, ◌-◌, ◌*◌, ◌^◌, ◌<◌, ◌≤◌, cond, ltb, List, length, get_or, take, drop, sym, ◌∙◌, lt_of_lt_of_le, add-zero, pow-suc, add-one, arith, drop-cons, le-ltb, lt-ltb}
+use native.Mathlib.Nat.{pow-le-pow_right}
+use Rattle.stored.specs.declared.words.Word.TheVariants.{Number, Bad}
+use Rattle.stored.specs.Words.{digit_of, hex_from}
+use Rattle.stored.proofs.words.digits.Given as goal
+
+abbrev pub invariant-loop-k : goal.invariant-loop-k
+invariant-loop-k l = (l.k ≤ 16) × (l.n < 16 ^ l.k) × (hex_from 0 (take 16 (drop l.at l.s)) ≡ hex_from l.n (take (16 - l.k) (drop (l.at + l.k) l.s)))
+
+abbrev pub decreases-loop-k : goal.decreases-loop-k
+decreases-loop-k l = 16 - l.k

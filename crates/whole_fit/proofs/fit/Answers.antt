@@ -1,0 +1,47 @@
+-- `whole_fit::fit` meets its contract: 5,100·M steps end any fit, so `settled` may be called. Assumes nothing.
+use native.Mathlib.Omega.{arith}
+use mathlib.Core.Path.{◌≡◌, ◌∙◌}
+use lib.ListN.{length}
+use Rattle.whole_fit.proofs.Returns.{start-refuses, few, one_ended, one-settles}
+use Rattle.whole_fit.proofs.fit.Goals as goal
+
+pub enum_known-rec : goal.enum_known-rec
+enum_known-rec c = c.in-Ready.keys1
+
+pub overflow_mul-st : goal.overflow_mul-st
+overflow_mul-st c =
+    let g = c.args in
+    omega (arith, few g.n g.p g.x.now g.y.now g.st g.s.now g.w.now c.start_whole.result c.start_whole.ensures c.in-Ready.is)
+
+pub settled-requires : goal.settled-requires
+settled-requires c =
+    let g = c.args in
+    one_ended g.n g.p g.x.now g.y.now g.st g.s.now g.w.now c.start_whole.result c.start_whole.ensures
+    c.in-Ready.is c.resume.result c.resume.ensures
+
+pub enum_known-r : goal.enum_known-r
+enum_known-r c = c.in-Ready.keys2
+
+pub shape_of-s-in-Ready : goal.shape_of-s-in-Ready
+shape_of-s-in-Ready c =
+    let scratch : length c.start_whole.new.s ≡ length c.args.s.now = c.start_whole.auto.1.1.1.1.1.0 in
+    c.resume.auto.1.1.1.1.1.1.0 ∙ scratch
+
+pub shape_of-w : goal.shape_of-w
+shape_of-w c = c.resume.auto.1.1.1.1.1.1.1.0
+
+pub returns-in-Ready : goal.returns-in-Ready
+returns-in-Ready c =
+    let g = c.args in
+    one-settles g.n g.p g.x.now g.y.now g.st g.s.now g.w.now c.start_whole.result c.start_whole.ensures
+    c.in-Ready.is c.resume.result c.resume.ensures c.settled.ensures
+
+pub shape_of-s-in-Refused : goal.shape_of-s-in-Refused
+shape_of-s-in-Refused c =
+    let scratch : length c.start_whole.new.s ≡ length c.args.s.now = c.start_whole.auto.1.1.1.1.1.0 in
+    scratch
+
+pub returns-in-Refused : goal.returns-in-Refused
+returns-in-Refused c =
+    let g = c.args in
+    start-refuses g.n g.p g.x.now g.y.now g.st g.s.now g.w.now c.start_whole.result c.start_whole.ensures c.in-Refused.is c.refused.ensures
