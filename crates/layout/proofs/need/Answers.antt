@@ -54,3 +54,7 @@ pub overflow_add-result-5 : goal.overflow_add-result-5
 overflow_add-result-5 c =
     let made : Products c.args.sh = products c.args.sh c.requires in
     omega (arith, made)
+
+pub returns : goal.returns
+unfolding words
+returns c = refl

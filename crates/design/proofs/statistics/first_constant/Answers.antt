@@ -34,6 +34,9 @@ module _ (m : List Float) (n p j : ℕ) where
       let e : p - j ≡ 0 = omega arith in
       rw e
 
+pub slice_bounds-moments-end : goal.slice_bounds-moments-end
+slice_bounds-moments-end c = refl
+
 pub loop-j-init : goal.loop-j-init
 loop-j-init c =
     let g = c.args in
