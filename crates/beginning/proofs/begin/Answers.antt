@@ -13,37 +13,37 @@ pub blank-requires : goal.blank-requires
 blank-requires c = record { room = c.requires.begins.room; need_value = c.requires.need_value }
 
 pub statistics-requires : goal.statistics-requires
-statistics-requires c = given (begins-on c.requires.begins c.blank.auto.0)
+statistics-requires c = given (begins-on c.requires.begins c.blank.auto.s)
 
 pub targets-requires : goal.targets-requires
 targets-requires c =
-    let len₂ : length c.statistics.new.s ≡ length c.args.s.now = c.statistics.auto.1.1.1.0 ∙ c.blank.auto.0 in
+    let len₂ : length c.statistics.new.s ≡ length c.args.s.now = c.statistics.auto.s ∙ c.blank.auto.s in
     let b = c.requires in
     let r = begins-on b.0 len₂ in
     record { room = r.room; targets = b.1.1; all = r.all; rows = r.rows; columns = r.columns }
 
 pub prepare-requires : goal.prepare-requires
 prepare-requires c =
-    let len₂ : length c.statistics.new.s ≡ length c.args.s.now = c.statistics.auto.1.1.1.0 ∙ c.blank.auto.0 in
-    let len₃ : length c.targets.new.s ≡ length c.args.s.now = c.targets.auto.1.1.0 ∙ len₂ in
+    let len₂ : length c.statistics.new.s ≡ length c.args.s.now = c.statistics.auto.s ∙ c.blank.auto.s in
+    let len₃ : length c.targets.new.s ≡ length c.args.s.now = c.targets.auto.s ∙ len₂ in
     begins-on c.requires.begins len₃
 
 pub sweep-requires : goal.sweep-requires
 unfolding words
 sweep-requires c =
-    let len₂ : length c.statistics.new.s ≡ length c.args.s.now = c.statistics.auto.1.1.1.0 ∙ c.blank.auto.0 in
-    let len₃ : length c.targets.new.s ≡ length c.args.s.now = c.targets.auto.1.1.0 ∙ len₂ in
-    let len₄ : length c.prepare.new.s ≡ length c.args.s.now = c.prepare.auto.1.1.1.1.0 ∙ len₃ in
+    let len₂ : length c.statistics.new.s ≡ length c.args.s.now = c.statistics.auto.s ∙ c.blank.auto.s in
+    let len₃ : length c.targets.new.s ≡ length c.args.s.now = c.targets.auto.s ∙ len₂ in
+    let len₄ : length c.prepare.new.s ≡ length c.args.s.now = c.prepare.auto.s ∙ len₃ in
     let b = c.requires in
     let e = len₄ in
     omega (arith, b.0.room.room, b.1.0)
 
 pub shape_of-s : goal.shape_of-s
 shape_of-s c =
-    let len₂ : length c.statistics.new.s ≡ length c.args.s.now = c.statistics.auto.1.1.1.0 ∙ c.blank.auto.0 in
-    let len₃ : length c.targets.new.s ≡ length c.args.s.now = c.targets.auto.1.1.0 ∙ len₂ in
-    let len₄ : length c.prepare.new.s ≡ length c.args.s.now = c.prepare.auto.1.1.1.1.0 ∙ len₃ in
-    c.sweep.auto.0 ∙ len₄
+    let len₂ : length c.statistics.new.s ≡ length c.args.s.now = c.statistics.auto.s ∙ c.blank.auto.s in
+    let len₃ : length c.targets.new.s ≡ length c.args.s.now = c.targets.auto.s ∙ len₂ in
+    let len₄ : length c.prepare.new.s ≡ length c.args.s.now = c.prepare.auto.s ∙ len₃ in
+    c.sweep.auto.s ∙ len₄
 
 pub returns : goal.returns
 unfolding start_store

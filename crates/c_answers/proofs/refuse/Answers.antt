@@ -7,7 +7,7 @@ pub write_answer-requires : goal.write_answer-requires
 write_answer-requires c = c.if-answer-eq7.true
 
 pub shape_of-answer : goal.shape_of-answer
-shape_of-answer c = c.write_answer.auto.1.1.0
+shape_of-answer c = c.write_answer.auto.out
 
 pub returns-then-answer-eq7 : goal.returns-then-answer-eq7
 returns-then-answer-eq7 c =

@@ -8,7 +8,7 @@ use Rattle.c_api.proofs.Calls.{Due, Lengths, lengths, resume-not-due, resume-due
 use Rattle.c_api.proofs.xangoravit_resume.Goals as goal
 
 pub shape_of-answer-then-not-due : goal.shape_of-answer-then-not-due
-shape_of-answer-then-not-due c = c.refuse.auto.1.1.1.0
+shape_of-answer-then-not-due c = c.refuse.auto.answer
 
 pub returns-then-not-due : goal.returns-then-not-due
 returns-then-not-due c =
@@ -45,16 +45,16 @@ write_answer-requires c =
     sized.answer
 
 pub shape_of-rec : goal.shape_of-rec
-shape_of-rec c = c.write_resumed.auto.1.1.1.0
+shape_of-rec c = c.write_resumed.auto.out
 
 pub shape_of-s : goal.shape_of-s
-shape_of-s c = c.resume-o.auto.1.1.1.1.1.1.0
+shape_of-s c = c.resume-o.auto.s
 
 pub shape_of-w : goal.shape_of-w
-shape_of-w c = c.resume-o.auto.1.1.1.1.1.1.1.0
+shape_of-w c = c.resume-o.auto.w
 
 pub shape_of-answer : goal.shape_of-answer
-shape_of-answer c = c.write_answer.auto.1.1.0
+shape_of-answer c = c.write_answer.auto.out
 
 pub returns : goal.returns
 returns c =

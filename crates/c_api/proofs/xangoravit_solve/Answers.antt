@@ -12,13 +12,13 @@ pub write_answer-requires : goal.write_answer-requires
 write_answer-requires c = c.if-answer-ne7.false
 
 pub shape_of-x : goal.shape_of-x
-shape_of-x c = c.solve.auto.1.1.1.0
+shape_of-x c = c.solve.auto.x
 
 pub shape_of-s : goal.shape_of-s
-shape_of-s c = c.solve.auto.1.1.1.1.1.1.0
+shape_of-s c = c.solve.auto.s
 
 pub shape_of-answer : goal.shape_of-answer
-shape_of-answer c = c.write_answer.auto.1.1.0
+shape_of-answer c = c.write_answer.auto.out
 
 pub returns : goal.returns
 returns c =

@@ -21,27 +21,27 @@ written st l e ef em ez = rw (ef, em, ez) (put_all l (settings_words st) (sym e)
 
 pub bounds-out-3 : goal.bounds-out-3
 bounds-out-3 c =
-    let sized : length c.write_floats.new.out ≡ settings-words = c.write_floats.auto.1.0 ∙ c.requires in
+    let sized : length c.write_floats.new.out ≡ settings-words = c.write_floats.auto.out ∙ c.requires in
     omega (arith, sized)
 
 pub bounds-out-4 : goal.bounds-out-4
 bounds-out-4 c =
-    let sized : length c.write_floats.new.out ≡ settings-words = c.write_floats.auto.1.0 ∙ c.requires in
+    let sized : length c.write_floats.new.out ≡ settings-words = c.write_floats.auto.out ∙ c.requires in
     simp length-set (omega (arith, sized))
 
 pub bounds-out-5 : goal.bounds-out-5
 bounds-out-5 c =
-    let sized : length c.write_floats.new.out ≡ settings-words = c.write_floats.auto.1.0 ∙ c.requires in
+    let sized : length c.write_floats.new.out ≡ settings-words = c.write_floats.auto.out ∙ c.requires in
     simp length-set (omega (arith, sized))
 
 pub bounds-out-6 : goal.bounds-out-6
 bounds-out-6 c =
-    let sized : length c.write_floats.new.out ≡ settings-words = c.write_floats.auto.1.0 ∙ c.requires in
+    let sized : length c.write_floats.new.out ≡ settings-words = c.write_floats.auto.out ∙ c.requires in
     simp length-set (omega (arith, sized))
 
 pub bounds-out-7 : goal.bounds-out-7
 bounds-out-7 c =
-    let sized : length c.write_floats.new.out ≡ settings-words = c.write_floats.auto.1.0 ∙ c.requires in
+    let sized : length c.write_floats.new.out ≡ settings-words = c.write_floats.auto.out ∙ c.requires in
     simp length-set (omega (arith, sized))
 
 pub returns : goal.returns

@@ -22,7 +22,7 @@ pub bounds-out-5 : goal.bounds-out-5
 bounds-out-5 c = simp length-set (omega arith)
 
 pub shape_of-out : goal.shape_of-out
-shape_of-out c = c.write_scalars.auto.1.0 ∙ simp length-set
+shape_of-out c = c.write_scalars.auto.out ∙ simp length-set
 
 pub returns : goal.returns
 returns c = paused-written c.args.a c.args.out.now c.requires c.stage_word.ensures c.index_word.ensures c.write_scalars.ensures

@@ -28,21 +28,21 @@ go-requires c =
 pub tidy-requires : goal.tidy-requires
 tidy-requires c =
     let held : let g = c.args in Held c.sizes_of-sh.result c.place-l.result g.x.now g.s.now = holds c.sizes_of-sh.ensures c.place-l.ensures c.requires.accepted in
-    let kept : length c.go.new.s ≡ length c.args.s.now = c.go.auto.1.1.1.1.1.0 in
+    let kept : length c.go.new.s ≡ length c.args.s.now = c.go.auto.s in
     (held_on held kept).room
 
 pub finish-requires : goal.finish-requires
 finish-requires c =
     let held : let g = c.args in Held c.sizes_of-sh.result c.place-l.result g.x.now g.s.now = holds c.sizes_of-sh.ensures c.place-l.ensures c.requires.accepted in
-    let kept : length c.go.new.s ≡ length c.args.s.now = c.go.auto.1.1.1.1.1.0 in
+    let kept : length c.go.new.s ≡ length c.args.s.now = c.go.auto.s in
     let a = c.requires.accepted in
     let q = c.sizes_of-sh.ensures in
     record { ends = may-end q a held kept; small = small a q }
 
 pub shape_of-s-in-Going : goal.shape_of-s-in-Going
 shape_of-s-in-Going c =
-    let kept : length c.go.new.s ≡ length c.args.s.now = c.go.auto.1.1.1.1.1.0 in
-    c.tidy.auto.0 ∙ kept
+    let kept : length c.go.new.s ≡ length c.args.s.now = c.go.auto.s in
+    c.tidy.auto.s ∙ kept
 
 pub returns-in-Going : goal.returns-in-Going
 returns-in-Going c =
@@ -53,11 +53,11 @@ returns-in-Going c =
 
 pub shape_of-s-in-Over : goal.shape_of-s-in-Over
 shape_of-s-in-Over c =
-    let kept : length c.go.new.s ≡ length c.args.s.now = c.go.auto.1.1.1.1.1.0 in
-    c.finish.auto.0 ∙ kept
+    let kept : length c.go.new.s ≡ length c.args.s.now = c.go.auto.s in
+    c.finish.auto.s ∙ kept
 
 pub shape_of-w : goal.shape_of-w
-shape_of-w c = c.finish.auto.1.1.1.1.1.1.0
+shape_of-w c = c.finish.auto.w
 
 pub returns-in-Over : goal.returns-in-Over
 returns-in-Over c =

@@ -17,7 +17,7 @@ run_steps-requires c =
     record { held = c.requires.held; sane = possible-sane g.limit g.rec c.requires.rec_value (sym c.spent.ensures ∙ c.if-spent.false); limit_bound = c.requires.limit_bound }
 
 pub shape_of-s : goal.shape_of-s
-shape_of-s c = c.run_steps.auto.1.1.1.1.1.0
+shape_of-s c = c.run_steps.auto.s
 
 pub returns : goal.returns
 returns c =

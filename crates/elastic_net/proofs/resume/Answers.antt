@@ -32,10 +32,10 @@ accepted-requires c =
     record { accepted = passed; rec_value = sym c.possible.ensures ∙ c.if-not-possible.false }
 
 pub shape_of-s : goal.shape_of-s
-shape_of-s c = c.accepted.auto.1.1.1.1.1.1.0
+shape_of-s c = c.accepted.auto.s
 
 pub shape_of-w : goal.shape_of-w
-shape_of-w c = c.accepted.auto.1.1.1.1.1.1.1.0
+shape_of-w c = c.accepted.auto.w
 
 pub returns : goal.returns
 returns c =

@@ -60,7 +60,7 @@ fresh_scalars-a-requires c =
     omega arith
 
 pub shape_of-s : goal.shape_of-s
-shape_of-s c = c.begin.auto.1.1.1.1.1.0
+shape_of-s c = c.begin.auto.s
 
 pub returns : goal.returns
 returns c =

@@ -9,7 +9,7 @@ use Rattle.inner_solver.proofs.turn.Goals as goal
 
 pub error-err-requires : goal.error-err-requires
 error-err-requires c =
-    let len : length c.precondition-2.new.s ≡ length c.args.s.now = c.precondition-2.auto.0 ∙ c.advance.auto.0 ∙ c.times-2.auto.0 ∙ c.times.auto.0 ∙ c.direct-bknum.auto.0 ∙ c.precondition.auto.0 in
+    let len : length c.precondition-2.new.s ≡ length c.args.s.now = c.precondition-2.auto.s ∙ c.advance.auto.s ∙ c.times-2.auto.s ∙ c.times.auto.s ∙ c.direct-bknum.auto.s ∙ c.precondition.auto.s in
     let r = c.requires in
     let l = r.laid.at-r in
     let e = len in
@@ -17,7 +17,7 @@ error-err-requires c =
 
 pub shape_of-s : goal.shape_of-s
 shape_of-s c =
-    let len : length c.precondition-2.new.s ≡ length c.args.s.now = c.precondition-2.auto.0 ∙ c.advance.auto.0 ∙ c.times-2.auto.0 ∙ c.times.auto.0 ∙ c.direct-bknum.auto.0 ∙ c.precondition.auto.0 in
+    let len : length c.precondition-2.new.s ≡ length c.args.s.now = c.precondition-2.auto.s ∙ c.advance.auto.s ∙ c.times-2.auto.s ∙ c.times.auto.s ∙ c.direct-bknum.auto.s ∙ c.precondition.auto.s in
     len
 
 pub returns : goal.returns

@@ -47,7 +47,7 @@ loop-k-preserved c = (omega arith, fold-turn _ _ _ _ _ _ c.loop-k.invariant.1 re
 pub loop-j-preserved : goal.loop-j-preserved
 loop-j-preserved c =
     let e : c.loop-k.k ≡ 4 = omega arith in
-    four-more c.requires c.args.t4 c.loop-j.invariant c.loop-j-test.true c.loop-j.invariant (rw e at c.loop-k.invariant.1)
+    four-more c.requires c.args.x c.loop-j.invariant c.loop-j-test.true c.loop-j.invariant (rw e at c.loop-k.invariant.1)
 
 pub returns : goal.returns
-returns c = made_all c.loop-j.invariant (omega arith) ∙ ap (put _ _) (four-all c.requires c.args.t4 _ _)
+returns c = made_all c.loop-j.invariant (omega arith) ∙ ap (put _ _) (four-all c.requires c.args.x _ _)

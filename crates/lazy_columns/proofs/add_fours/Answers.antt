@@ -32,7 +32,7 @@ add_four-requires c =
       reciprocals = omega arith;
       room = omega arith;
       off-columns = c.requires.off-columns;
-      c = rw (while-made c.requires (omega arith) c.loop-i.invariant.1).reciprocals (sym c.all_there.ensures ∙ granted _ c.if-not-all_there.false-raw);
+      there = rw (while-made c.requires (omega arith) c.loop-i.invariant.1).reciprocals (sym c.all_there.ensures ∙ granted _ c.if-not-all_there.false-raw);
     }
 
 pub loop-i-preserved : goal.loop-i-preserved

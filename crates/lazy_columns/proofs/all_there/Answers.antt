@@ -1,6 +1,5 @@
 use Prim.Native.Nat.{◌-◌, ◌≤◌}
 use mathlib.Core.Path.{◌≡◌, ap, ◌∙◌}
-use mathlib.Core.Logic.{⊎_elim}
 use native.Mathlib.Omega.{arith}
 use lib.Ieee.{Float, nan, eq}
 use Rattle.arrays.specs.Part.{part}
@@ -9,6 +8,7 @@ use Rattle.arrays.specs.Sums.{plus0}
 use Rattle.lazy_columns.specs.ColumnSums.{all_there}
 use Rattle.lazy_columns.proofs.There.{none_yet, one-missing, one-there}
 use Rattle.lazy_columns.proofs.all_there.Goals as goal
+use Rattle.lazy_columns.proofs.all_there.Goals.{then-s-rc, else-s-rc}
 
 pub loop-j-init : goal.loop-j-init
 loop-j-init c = (omega arith, none_yet _)
@@ -19,7 +19,10 @@ loop-j-preserved c =
     let j = c.loop-j.j in
     let read = ap (λ (y : Float). eq y plus0) (get_or-part g.s.now g.rc g.p j nan c.loop-j-test.true) in (
       omega arith,
-      ⊎_elim (λ w. w.1 ∙ one-missing _ j (read ∙ w.0.taken)) (λ w. w.1 ∙ c.loop-j.invariant.1 ∙ one-there _ j (read ∙ w.0.left)) c.if-s-rc.branch,
+      elim c.if-s-rc.branch [
+        | then-s-rc w ↦ w.good-is ∙ one-missing _ j (read ∙ w.if-s-rc.true)
+        | else-s-rc w ↦ w.good-is ∙ c.loop-j.invariant.1 ∙ one-there _ j (read ∙ w.if-s-rc.false)
+      ],
     )
 
 pub returns : goal.returns

@@ -37,7 +37,7 @@ pub add_row-requires : goal.add_row-requires
 add_row-requires c =
     let h = row_room _ _ c.args.p c.loop-i-test.true in
     record {
-      c = omega arith;
+      start = omega arith;
       row = omega arith;
       centres = omega arith;
       scales = omega arith;

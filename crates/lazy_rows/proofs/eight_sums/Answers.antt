@@ -14,8 +14,7 @@ use Rattle.lazy_rows.specs.RowSums.{RowReads}
 use Rattle.lazy_rows.proofs.RowSums.{row-term, one_of}
 use Rattle.lazy_rows.proofs.eight_sums.Invariants.{terms}
 use Rattle.lazy_rows.proofs.eight_sums.Goals as goal
-
-)
+use Rattle.lazy_rows.proofs.eight_sums.Goals.{then-by+else-loop-k-test, else-by+else-loop-k-else-by-test}
 
 pub loop-j-init : goal.loop-j-init
 unfolding tab
@@ -105,7 +104,11 @@ pub loop-j-preserved : goal.loop-j-preserved
 loop-j-preserved c =
     (
   omega arith,
-  ⊎_elim (λ w. rw w.3 (several-turn w.1.inv (omega arith))) (λ w. rw w.3 (several-turn w.1.inv (omega arith))) c.if-by.branch,
+  elim c.if-by.branch [
+    | then-by+else-loop-k-test w ↦ rw w.x-is (several-turn w.loop-k.invariant (omega arith))
+    | else-by+else-loop-k-else-by-test w ↦ rw w.x-is (several-turn w.loop-k-else-by.invariant (omega arith))
+  ],
+)
 
 pub returns : goal.returns
 returns c =

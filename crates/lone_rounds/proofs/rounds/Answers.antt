@@ -11,7 +11,7 @@ pub returns-in_default : goal.returns-in_default
 returns-in_default c = stopped-at c.loop-iter.invariant c.loop-iter-test.true c.turn-t.ensures c.in_default.is c.error_of.ensures
 
 pub loop-iter-preserved : goal.loop-iter-preserved
-loop-iter-preserved c = goes_on c.loop-iter.invariant c.loop-iter-test.true c.turn-t.ensures c.turn-t.auto.1.1.1.1.1.1.0 c.in-More.is
+loop-iter-preserved c = goes_on c.loop-iter.invariant c.loop-iter-test.true c.turn-t.ensures c.turn-t.auto.s c.in-More.is
 
 pub returns : goal.returns
 returns c = ended c.loop-iter.invariant c.loop-iter-test.false

@@ -25,57 +25,57 @@ divide-requires c = omega (arith, c.requires.room)
 
 pub direct-bknum-requires : goal.direct-bknum-requires
 direct-bknum-requires c =
-    let long1 : length c.divide.new.s ≡ length c.args.s.now = c.divide.auto.0 in
+    let long1 : length c.divide.new.s ≡ length c.args.s.now = c.divide.auto.s in
     omega (arith, c.requires.room, long1)
 
 pub columns_of-requires : goal.columns_of-requires
 columns_of-requires c =
-    let long1 : length c.divide.new.s ≡ length c.args.s.now = c.divide.auto.0 in
-    let long2 : length c.direct-bknum.new.s ≡ length c.args.s.now = c.direct-bknum.auto.0 ∙ long1 in
+    let long1 : length c.divide.new.s ≡ length c.args.s.now = c.divide.auto.s in
+    let long2 : length c.direct-bknum.new.s ≡ length c.args.s.now = c.direct-bknum.auto.s ∙ long1 in
     omega (arith, c.requires, long2)
 
 pub rows_of-requires : goal.rows_of-requires
 rows_of-requires c =
-    let long1 : length c.divide.new.s ≡ length c.args.s.now = c.divide.auto.0 in
-    let long2 : length c.direct-bknum.new.s ≡ length c.args.s.now = c.direct-bknum.auto.0 ∙ long1 in
-    let long3 : length c.columns_of.new.s ≡ length c.args.s.now = c.columns_of.auto.1.1.1.0 ∙ long2 in
+    let long1 : length c.divide.new.s ≡ length c.args.s.now = c.divide.auto.s in
+    let long2 : length c.direct-bknum.new.s ≡ length c.args.s.now = c.direct-bknum.auto.s ∙ long1 in
+    let long3 : length c.columns_of.new.s ≡ length c.args.s.now = c.columns_of.auto.s ∙ long2 in
     omega (arith, c.requires, long3)
 
 pub advance-requires : goal.advance-requires
 advance-requires c =
-    let long1 : length c.divide.new.s ≡ length c.args.s.now = c.divide.auto.0 in
-    let long2 : length c.direct-bknum.new.s ≡ length c.args.s.now = c.direct-bknum.auto.0 ∙ long1 in
-    let long3 : length c.columns_of.new.s ≡ length c.args.s.now = c.columns_of.auto.1.1.1.0 ∙ long2 in
-    let long4 : length c.rows_of.new.s ≡ length c.args.s.now = c.rows_of.auto.1.1.1.0 ∙ long3 in
+    let long1 : length c.divide.new.s ≡ length c.args.s.now = c.divide.auto.s in
+    let long2 : length c.direct-bknum.new.s ≡ length c.args.s.now = c.direct-bknum.auto.s ∙ long1 in
+    let long3 : length c.columns_of.new.s ≡ length c.args.s.now = c.columns_of.auto.s ∙ long2 in
+    let long4 : length c.rows_of.new.s ≡ length c.args.s.now = c.rows_of.auto.s ∙ long3 in
     omega (arith, c.requires.room, long4)
 
 pub divide-requires-2 : goal.divide-requires-2
 divide-requires-2 c =
-    let long1 : length c.divide.new.s ≡ length c.args.s.now = c.divide.auto.0 in
-    let long2 : length c.direct-bknum.new.s ≡ length c.args.s.now = c.direct-bknum.auto.0 ∙ long1 in
-    let long3 : length c.columns_of.new.s ≡ length c.args.s.now = c.columns_of.auto.1.1.1.0 ∙ long2 in
-    let long4 : length c.rows_of.new.s ≡ length c.args.s.now = c.rows_of.auto.1.1.1.0 ∙ long3 in
-    let long5 : length c.advance.new.s ≡ length c.args.s.now = c.advance.auto.0 ∙ long4 in
+    let long1 : length c.divide.new.s ≡ length c.args.s.now = c.divide.auto.s in
+    let long2 : length c.direct-bknum.new.s ≡ length c.args.s.now = c.direct-bknum.auto.s ∙ long1 in
+    let long3 : length c.columns_of.new.s ≡ length c.args.s.now = c.columns_of.auto.s ∙ long2 in
+    let long4 : length c.rows_of.new.s ≡ length c.args.s.now = c.rows_of.auto.s ∙ long3 in
+    let long5 : length c.advance.new.s ≡ length c.args.s.now = c.advance.auto.s ∙ long4 in
     omega (arith, c.requires.room, long5)
 
 pub error-err-requires : goal.error-err-requires
 error-err-requires c =
-    let long1 : length c.divide.new.s ≡ length c.args.s.now = c.divide.auto.0 in
-    let long2 : length c.direct-bknum.new.s ≡ length c.args.s.now = c.direct-bknum.auto.0 ∙ long1 in
-    let long3 : length c.columns_of.new.s ≡ length c.args.s.now = c.columns_of.auto.1.1.1.0 ∙ long2 in
-    let long4 : length c.rows_of.new.s ≡ length c.args.s.now = c.rows_of.auto.1.1.1.0 ∙ long3 in
-    let long5 : length c.advance.new.s ≡ length c.args.s.now = c.advance.auto.0 ∙ long4 in
-    let long6 : length c.divide-2.new.s ≡ length c.args.s.now = c.divide-2.auto.0 ∙ long5 in
+    let long1 : length c.divide.new.s ≡ length c.args.s.now = c.divide.auto.s in
+    let long2 : length c.direct-bknum.new.s ≡ length c.args.s.now = c.direct-bknum.auto.s ∙ long1 in
+    let long3 : length c.columns_of.new.s ≡ length c.args.s.now = c.columns_of.auto.s ∙ long2 in
+    let long4 : length c.rows_of.new.s ≡ length c.args.s.now = c.rows_of.auto.s ∙ long3 in
+    let long5 : length c.advance.new.s ≡ length c.args.s.now = c.advance.auto.s ∙ long4 in
+    let long6 : length c.divide-2.new.s ≡ length c.args.s.now = c.divide-2.auto.s ∙ long5 in
     omega (arith, c.requires.room, long6)
 
 pub shape_of-s : goal.shape_of-s
 shape_of-s c =
-    let long1 : length c.divide.new.s ≡ length c.args.s.now = c.divide.auto.0 in
-    let long2 : length c.direct-bknum.new.s ≡ length c.args.s.now = c.direct-bknum.auto.0 ∙ long1 in
-    let long3 : length c.columns_of.new.s ≡ length c.args.s.now = c.columns_of.auto.1.1.1.0 ∙ long2 in
-    let long4 : length c.rows_of.new.s ≡ length c.args.s.now = c.rows_of.auto.1.1.1.0 ∙ long3 in
-    let long5 : length c.advance.new.s ≡ length c.args.s.now = c.advance.auto.0 ∙ long4 in
-    let long6 : length c.divide-2.new.s ≡ length c.args.s.now = c.divide-2.auto.0 ∙ long5 in
+    let long1 : length c.divide.new.s ≡ length c.args.s.now = c.divide.auto.s in
+    let long2 : length c.direct-bknum.new.s ≡ length c.args.s.now = c.direct-bknum.auto.s ∙ long1 in
+    let long3 : length c.columns_of.new.s ≡ length c.args.s.now = c.columns_of.auto.s ∙ long2 in
+    let long4 : length c.rows_of.new.s ≡ length c.args.s.now = c.rows_of.auto.s ∙ long3 in
+    let long5 : length c.advance.new.s ≡ length c.args.s.now = c.advance.auto.s ∙ long4 in
+    let long6 : length c.divide-2.new.s ≡ length c.args.s.now = c.divide-2.auto.s ∙ long5 in
     long6
 
 pub returns : goal.returns

@@ -23,7 +23,7 @@ pub sweep-requires : goal.sweep-requires
 sweep-requires c =
     let k = c.check-c in
     let p = passed k.result k.ensures c.in_default.is in
-    omega (arith, c.run-err.auto.1.1.1.0, p.lengths.start)
+    omega (arith, c.run-err.auto.x, p.lengths.start)
 
 pub returns : goal.returns
 returns c =

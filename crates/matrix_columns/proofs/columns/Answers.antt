@@ -7,7 +7,7 @@ use Rattle.matrix_columns.proofs.Summed.{alike, filled, together-on, first_rows,
 use Rattle.matrix_columns.proofs.columns.Goals as goal
 
 pub add_fours-requires : goal.add_fours-requires
-add_fours-requires c = together-on c.fill.auto.0 (first_rows c.requires (4 * (c.args.rows / 4)) (omega arith))
+add_fours-requires c = together-on c.fill.auto.s (first_rows c.requires (4 * (c.args.rows / 4)) (omega arith))
 
 pub overflow_mul-n-2 : goal.overflow_mul-n-2
 overflow_mul-n-2 c =

@@ -11,7 +11,7 @@ pub add_fours_both-requires : goal.add_fours_both-requires
 add_fours_both-requires c =
     let n = 4 * (c.args.rows / 4) in
     let h : n ≤ c.args.rows = omega arith in
-    let e = c.fill.auto.0 in
+    let e = c.fill.auto.s in
     record { together = together-on e (first_rows c.requires.together n h); together_2 = together-on e (first_rows c.requires.together_2 n h); cols_in_bounds = omega arith }
 
 pub overflow_mul-n-2 : goal.overflow_mul-n-2
@@ -30,7 +30,7 @@ pub add_rows_both-requires : goal.add_rows_both-requires
 add_rows_both-requires c =
     let n = 4 * (c.args.rows / 4) in
     let h : n ≤ c.args.rows = omega arith in
-    let e = c.add_fours_both.auto.0 ∙ c.fill.auto.0 in
+    let e = c.add_fours_both.auto.s ∙ c.fill.auto.s in
     record { together = together-on e (last-rows c.requires.together n h); together_2 = together-on e (last-rows c.requires.together_2 n h); cols_in_bounds = omega arith }
 
 pub returns : goal.returns

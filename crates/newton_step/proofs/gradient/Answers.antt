@@ -21,7 +21,7 @@ overflow_add-l c =
 
 pub negated_g2-requires : goal.negated_g2-requires
 negated_g2-requires c =
-    let len : length c.negated.new.s ≡ length c.args.s.now = c.negated.auto.0 ∙ c.g1.auto.0 ∙ c.gradphi.auto.1.1.1.0 in
+    let len : length c.negated.new.s ≡ length c.args.s.now = c.negated.auto.s ∙ c.g1.auto.s ∙ c.gradphi.auto.s in
     let r = c.requires.held.room in
     let e = len in
     omega arith

@@ -13,7 +13,7 @@ pub gradient-requires : goal.gradient-requires
 gradient-requires c =
     let sh = c.args.sh in
     let g = after-barrier sh c.args.tm c.args.m.now c.args.t _ c.args.g c.requires.gradphi in
-    record { held = held_on c.requires.held c.barrier.auto.0; gradphi = rw (vars-of sh c.barrier.ensures) g }
+    record { held = held_on c.requires.held c.barrier.auto.s; gradphi = rw (vars-of sh c.barrier.ensures) g }
 
 pub returns : goal.returns
 unfolding newton_store

@@ -15,7 +15,7 @@ gap-g-requires c =
 
 pub shape_of-s-then-g-tol : goal.shape_of-s-then-g-tol
 shape_of-s-then-g-tol c =
-    let len-gap : length c.gap-g.new.s ≡ length c.args.s.now = c.gap-g.auto.1.1.1.0 in
+    let len-gap : length c.gap-g.new.s ≡ length c.args.s.now = c.gap-g.auto.s in
     len-gap
 
 pub returns-then-g-tol : goal.returns-then-g-tol
@@ -31,20 +31,20 @@ next_t-t-requires c =
 
 pub newton_terms-requires : goal.newton_terms-requires
 newton_terms-requires c =
-    let len-gap : length c.gap-g.new.s ≡ length c.args.s.now = c.gap-g.auto.1.1.1.0 in
+    let len-gap : length c.gap-g.new.s ≡ length c.args.s.now = c.gap-g.auto.s in
     let d = c.gap-g.ensures in
     record { held = held_on c.requires.held len-gap; gradphi = rw (vars-of c.args.sh d.left) d.gradphi-is }
 
 pub pcgtol-pcg-requires : goal.pcgtol-pcg-requires
 pcgtol-pcg-requires c =
-    let len-gap : length c.gap-g.new.s ≡ length c.args.s.now = c.gap-g.auto.1.1.1.0 in
-    let len-newton : length c.newton_terms.new.s ≡ length (c).args.s.now = c.newton_terms.auto.1.1.1.0 ∙ len-gap in
+    let len-gap : length c.gap-g.new.s ≡ length c.args.s.now = c.gap-g.auto.s in
+    let len-newton : length c.newton_terms.new.s ≡ length (c).args.s.now = c.newton_terms.auto.s ∙ len-gap in
     (held_on (c).requires.0 len-newton).room
 
 pub shape_of-s-then-pcg : goal.shape_of-s-then-pcg
 shape_of-s-then-pcg c =
-    let len-gap : length c.gap-g.new.s ≡ length c.args.s.now = c.gap-g.auto.1.1.1.0 in
-    let len-newton : length c.newton_terms.new.s ≡ length (c).args.s.now = c.newton_terms.auto.1.1.1.0 ∙ len-gap in
+    let len-gap : length c.gap-g.new.s ≡ length c.args.s.now = c.gap-g.auto.s in
+    let len-newton : length c.newton_terms.new.s ≡ length (c).args.s.now = c.newton_terms.auto.s ∙ len-gap in
     len-newton
 
 pub returns-then-pcg : goal.returns-then-pcg
@@ -56,15 +56,15 @@ returns-then-pcg c =
 
 pub begin-bnrm-requires : goal.begin-bnrm-requires
 begin-bnrm-requires c =
-    let len-gap : length c.gap-g.new.s ≡ length c.args.s.now = c.gap-g.auto.1.1.1.0 in
-    let len-newton : length c.newton_terms.new.s ≡ length (c).args.s.now = c.newton_terms.auto.1.1.1.0 ∙ len-gap in
+    let len-gap : length c.gap-g.new.s ≡ length c.args.s.now = c.gap-g.auto.s in
+    let len-newton : length c.newton_terms.new.s ≡ length (c).args.s.now = c.newton_terms.auto.s ∙ len-gap in
     (held_on (c).requires.0 len-newton).room
 
 pub shape_of-s : goal.shape_of-s
 shape_of-s c =
-    let len-gap : length c.gap-g.new.s ≡ length c.args.s.now = c.gap-g.auto.1.1.1.0 in
-    let len-newton : length c.newton_terms.new.s ≡ length (c).args.s.now = c.newton_terms.auto.1.1.1.0 ∙ len-gap in
-    c.begin-bnrm.auto.0 ∙ len-newton
+    let len-gap : length c.gap-g.new.s ≡ length c.args.s.now = c.gap-g.auto.s in
+    let len-newton : length c.newton_terms.new.s ≡ length (c).args.s.now = c.newton_terms.auto.s ∙ len-gap in
+    c.begin-bnrm.auto.s ∙ len-newton
 
 pub returns : goal.returns
 returns c =

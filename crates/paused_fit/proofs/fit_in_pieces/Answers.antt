@@ -37,11 +37,11 @@ enum_known-r c = c.in-Ready.keys2
 
 pub shape_of-s-in-Ready : goal.shape_of-s-in-Ready
 shape_of-s-in-Ready c =
-    let scratch : length c.start_whole.new.s ≡ length c.args.s.now = c.start_whole.auto.1.1.1.1.1.0 in
-    c.resumed.auto.1.1.1.1.1.1.0 ∙ scratch
+    let scratch : length c.start_whole.new.s ≡ length c.args.s.now = c.start_whole.auto.s in
+    c.resumed.auto.s ∙ scratch
 
 pub shape_of-w : goal.shape_of-w
-shape_of-w c = c.resumed.auto.1.1.1.1.1.1.1.0
+shape_of-w c = c.resumed.auto.w
 
 pub returns-in-Ready : goal.returns-in-Ready
 returns-in-Ready c =
@@ -51,7 +51,7 @@ returns-in-Ready c =
 
 pub shape_of-s-in-Refused : goal.shape_of-s-in-Refused
 shape_of-s-in-Refused c =
-    let scratch : length c.start_whole.new.s ≡ length c.args.s.now = c.start_whole.auto.1.1.1.1.1.0 in
+    let scratch : length c.start_whole.new.s ≡ length c.args.s.now = c.start_whole.auto.s in
     scratch
 
 pub returns-in-Refused : goal.returns-in-Refused

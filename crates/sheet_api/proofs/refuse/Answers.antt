@@ -4,7 +4,7 @@ use Rattle.sheet_api.proofs.Calls.{refused-told}
 use Rattle.sheet_api.proofs.refuse.Goals as goal
 
 pub shape_of-place : goal.shape_of-place
-shape_of-place c = c.answer_read.auto.1.0
+shape_of-place c = c.answer_read.auto.place
 
 pub returns : goal.returns
 returns c =

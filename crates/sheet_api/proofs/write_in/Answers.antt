@@ -9,7 +9,7 @@ use Rattle.sheet_api.proofs.Writing.{write-not-due, settings-there, write-due}
 use Rattle.sheet_api.proofs.write_in.Goals as goal
 
 pub shape_of-place-then-not-due : goal.shape_of-place-then-not-due
-shape_of-place-then-not-due c = c.answer.auto.1.0
+shape_of-place-then-not-due c = c.answer.auto.place
 
 pub returns-then-not-due : goal.returns-then-not-due
 returns-then-not-due c =
@@ -24,10 +24,10 @@ settings_from-requires c =
     settings-there g.v g.n g.p g.settings.now g.sources.now g.targets.now g.x.now g.y.now g.out.now g.place.now is-due
 
 pub shape_of-out : goal.shape_of-out
-shape_of-out c = c.write_sheet-o.auto.1.1.1.1.1.1.1.1.0
+shape_of-out c = c.write_sheet-o.auto.out
 
 pub shape_of-place : goal.shape_of-place
-shape_of-place c = c.answer-2.auto.1.0
+shape_of-place c = c.answer-2.auto.place
 
 pub returns : goal.returns
 returns c =

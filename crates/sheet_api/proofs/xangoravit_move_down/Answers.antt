@@ -10,7 +10,7 @@ use Rattle.sheet_api.proofs.Writing.{move-not-due, words-there, move-told}
 use Rattle.sheet_api.proofs.xangoravit_move_down.Goals as goal
 
 pub shape_of-place-then-not-due : goal.shape_of-place-then-not-due
-shape_of-place-then-not-due c = c.answer.auto.1.0
+shape_of-place-then-not-due c = c.answer.auto.place
 
 pub returns-then-not-due : goal.returns-then-not-due
 unfolding move_down_words
@@ -26,13 +26,13 @@ tell_move-requires c =
     words-there (down_move g.bytes.now g.out.now) (down_check g.bytes.now (length g.out.now)) g.out.now g.moved.now g.place.now is-due
 
 pub shape_of-out : goal.shape_of-out
-shape_of-out c = c.move_down.auto.1.0
+shape_of-out c = c.move_down.auto.out
 
 pub shape_of-moved : goal.shape_of-moved
-shape_of-moved c = c.tell_move.auto.1.0
+shape_of-moved c = c.tell_move.auto.moved
 
 pub shape_of-place : goal.shape_of-place
-shape_of-place c = c.tell_move.auto.1.1.0
+shape_of-place c = c.tell_move.auto.place
 
 pub returns : goal.returns
 unfolding move_down_words

@@ -7,7 +7,7 @@ use Rattle.sheet_api.proofs.Calls.{Due, due-header, sheet-not-due, sheet-due}
 use Rattle.sheet_api.proofs.xangoravit_read_sheet.Goals as goal
 
 pub shape_of-place-then-not-due : goal.shape_of-place-then-not-due
-shape_of-place-then-not-due c = c.refuse.auto.1.1.1.0
+shape_of-place-then-not-due c = c.refuse.auto.place
 
 pub returns-then-not-due : goal.returns-then-not-due
 returns-then-not-due c =
@@ -22,16 +22,16 @@ tell-requires c =
     due-header (length g.header.now) (length g.place.now) is-due
 
 pub shape_of-x : goal.shape_of-x
-shape_of-x c = c.read_sheet-o.auto.1.1.1.0
+shape_of-x c = c.read_sheet-o.auto.x
 
 pub shape_of-y : goal.shape_of-y
-shape_of-y c = c.read_sheet-o.auto.1.1.1.1.0
+shape_of-y c = c.read_sheet-o.auto.y
 
 pub shape_of-header : goal.shape_of-header
-shape_of-header c = c.tell.auto.1.0
+shape_of-header c = c.tell.auto.header
 
 pub shape_of-place : goal.shape_of-place
-shape_of-place c = c.tell.auto.1.1.0
+shape_of-place c = c.tell.auto.place
 
 pub returns : goal.returns
 returns c =

@@ -7,13 +7,13 @@ pub turn-requires : goal.turn-requires
 turn-requires c = c.requires
 
 pub shape_of-s-in-Stop : goal.shape_of-s-in-Stop
-shape_of-s-in-Stop c = c.turn.auto.0
+shape_of-s-in-Stop c = c.turn.auto.s
 
 pub returns-in-Stop : goal.returns-in-Stop
 returns-in-Stop c = did-turn c.args.k c.args.a c.turn.ensures c.in-Stop.is
 
 pub shape_of-s-in-More : goal.shape_of-s-in-More
-shape_of-s-in-More c = c.turn.auto.0
+shape_of-s-in-More c = c.turn.auto.s
 
 pub returns-in-More : goal.returns-in-More
 returns-in-More c = did-turn c.args.k c.args.a c.turn.ensures c.in-More.is

@@ -10,7 +10,7 @@ pub turn-o-requires : goal.turn-o-requires
 turn-o-requires c = c.requires.held.room
 
 pub search_begins-requires : goal.search_begins-requires
-search_begins-requires c = (held_on c.requires.held c.turn-o.auto.0).room
+search_begins-requires c = (held_on c.requires.held c.turn-o.auto.s).room
 
 pub returns-in_default : goal.returns-in_default
 unfolding solver+
@@ -27,7 +27,7 @@ returns-then-k-lt4999 c =
     c.in-More.is c.if-k-lt4999.true
 
 pub search_begins-requires-2 : goal.search_begins-requires-2
-search_begins-requires-2 c = (held_on c.requires.held c.turn-o.auto.0).room
+search_begins-requires-2 c = (held_on c.requires.held c.turn-o.auto.s).room
 
 pub returns : goal.returns
 unfolding solver+

@@ -30,7 +30,7 @@ pub loop-left-preserved : goal.loop-left-preserved
 loop-left-preserved c =
     let s = c.args in
     went_on s.sh s.tm s.tol _ s.limit s.budget s.rec _ _ _ _ _ _ c.loop-left-test.true c.loop-left.invariant
-    c.one_step-o.auto.1.1.1.1.1.0 c.in-Going.is c.searched-known.ensures c.one_step-o.ensures
+    c.one_step-o.auto.s c.in-Going.is c.searched-known.ensures c.one_step-o.ensures
 
 pub returns : goal.returns
 returns c =

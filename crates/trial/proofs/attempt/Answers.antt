@@ -5,7 +5,7 @@ use Rattle.trial.proofs.Returns.{inside, outside}
 use Rattle.trial.proofs.attempt.Goals as goal
 
 pub decide-requires : goal.decide-requires
-decide-requires c = held_on c.requires c.move_on.auto.0
+decide-requires c = held_on c.requires c.move_on.auto.s
 
 pub returns-then-most : goal.returns-then-most
 returns-then-most c =

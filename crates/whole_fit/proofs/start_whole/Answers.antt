@@ -9,7 +9,7 @@ pub enum_known-r : goal.enum_known-r
 enum_known-r c = c.in-Fine.keys2
 
 pub shape_of-s : goal.shape_of-s
-shape_of-s c = c.start.auto.1.1.1.1.1.0
+shape_of-s c = c.start.auto.s
 
 pub returns-in-Fine : goal.returns-in-Fine
 returns-in-Fine c =

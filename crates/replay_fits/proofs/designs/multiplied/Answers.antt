@@ -43,4 +43,4 @@ pub transposed-requires : goal.transposed-requires
 transposed-requires c =
     let passed : let g = c.args in Accepted g.n g.p (length g.x.now) g.n g.p g.st (length g.s.now) = accepted (fine_of _ _ _ _ _ _ _ c.limits-c.result c.limits-c.ensures c.in-Fine.is) in
     let d = c.place-l.ensures in
-    (held_on {s = c.args.s.now} (holds c.sizes_of-sh.ensures d passed) c.matvec.auto.1.1.1.0, transpose d)
+    (held_on {s = c.args.s.now} (holds c.sizes_of-sh.ensures d passed) c.matvec.auto.s, transpose d)
