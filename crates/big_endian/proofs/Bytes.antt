@@ -39,7 +39,8 @@ number-back (suc k) v rest h =
     let front = number-back k (v / 256) (v % 256 ∷ rest) ((div-lt_iff_lt-mul (zero-lt-suc 255)).1 (subst (λ (x : ℕ). v < x) (pow-suc 256 k) h)) in
     let place : 0 + k ≡ length xs + 0 = omega (arith, length-bytes k (v / 256)) in
     let last = ap (λ (j : ℕ). get_or (xs ++ (v % 256 ∷ rest)) j 0) place ∙ get_or-append-add xs (v % 256 ∷ rest) 0 0 in
-    rw (append_assoc xs (v % 256 ∷ []) rest, front, last) (parts v)
+    let split : bytes_of (suc k) v ++ rest ≡ xs ++ (v % 256 ∷ rest) = append_assoc xs (v % 256 ∷ []) rest in
+    ap (λ (b : List ℕ). big_endian b 0 k * 256 + get_or b (0 + k) 0) split ∙ rw (front, last) (parts v)
 
 -- ---- bytes, their number, and the bytes
 
