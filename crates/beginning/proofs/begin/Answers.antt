@@ -18,9 +18,8 @@ statistics-requires c = given (begins-on c.requires.begins c.blank.auto.s)
 pub targets-requires : goal.targets-requires
 targets-requires c =
     let len₂ : length c.statistics.new.s ≡ length c.args.s.now = c.statistics.auto.s ∙ c.blank.auto.s in
-    let b = c.requires in
-    let r = begins-on b.0 len₂ in
-    record { room = r.room; targets = b.1.1; all = r.all; rows = r.rows; columns = r.columns }
+    let r = begins-on c.requires.begins len₂ in
+    record { room = r.room; targets = c.requires.y_len; all = r.all; rows = r.rows; columns = r.columns }
 
 pub prepare-requires : goal.prepare-requires
 prepare-requires c =
@@ -34,9 +33,8 @@ sweep-requires c =
     let len₂ : length c.statistics.new.s ≡ length c.args.s.now = c.statistics.auto.s ∙ c.blank.auto.s in
     let len₃ : length c.targets.new.s ≡ length c.args.s.now = c.targets.auto.s ∙ len₂ in
     let len₄ : length c.prepare.new.s ≡ length c.args.s.now = c.prepare.auto.s ∙ len₃ in
-    let b = c.requires in
     let e = len₄ in
-    omega (arith, b.0.room.room, b.1.0)
+    omega (arith, c.requires.begins.room.room, c.requires.need_value)
 
 pub shape_of-s : goal.shape_of-s
 shape_of-s c =

@@ -5,27 +5,21 @@ use Rattle.design_products.proofs.transposed_both.Goals as goal
 
 pub columns_both-requires : goal.columns_both-requires
 columns_both-requires c =
-    let pre = c.requires in
-    let out = pre.1.0 in
-    let rest = pre.1.1.1.1 in record { reads = downward _ _ _ _ pre.0 _ _ out pre.1.1.0 pre.1.1.1.0; reads_2 = downward _ _ _ _ pre.0 _ _ out rest.0 rest.1.0; p_in_bounds = rest.1.1 }
+    let out = c.requires.p_bound in
+    let rest = c.requires.y_le_w in record { reads = downward _ _ _ _ c.requires.held _ _ out c.requires.y_le_v c.requires.k_bound; reads_2 = downward _ _ _ _ c.requires.held _ _ out rest.0 rest.1.0; p_in_bounds = rest.1.1 }
 
 pub returns-then-sh : goal.returns-then-sh
 returns-then-sh c =
-    let pre = c.requires in
-    let e = c.columns_both.ensures in
     let z = c.if-sh.true in
-    record { s_after = lazy-columns pre.0 _ _ _ _ z e.0; t_after = lazy-columns pre.0 _ _ _ _ z e.1 }
+    record { s_after = lazy-columns c.requires.held _ _ _ _ z c.columns_both.ensures.s_after; t_after = lazy-columns c.requires.held _ _ _ _ z c.columns_both.ensures.y_after }
 
 pub columns_both-requires-2 : goal.columns_both-requires-2
 columns_both-requires-2 c =
-    let pre = c.requires in
     let lazy = c.if-sh.false in
-    let out = pre.1.0 in
-    let rest = pre.1.1.1.1 in record { together = stored-downward _ _ _ _ pre.0 _ _ lazy out pre.1.1.0 pre.1.1.1.0; together_2 = stored-downward _ _ _ _ pre.0 _ _ lazy out rest.0 rest.1.0; cols_in_bounds = rest.1.1 }
+    let out = c.requires.p_bound in
+    let rest = c.requires.y_le_w in record { together = stored-downward _ _ _ _ c.requires.held _ _ lazy out c.requires.y_le_v c.requires.k_bound; together_2 = stored-downward _ _ _ _ c.requires.held _ _ lazy out rest.0 rest.1.0; cols_in_bounds = rest.1.1 }
 
 pub returns : goal.returns
 returns c =
-    let pre = c.requires in
-    let e = c.columns_both-2.ensures in
     let z = c.if-sh.false in
-    record { s_after = stored-columns pre.0 _ _ _ _ z e.0; t_after = stored-columns pre.0 _ _ _ _ z e.1 }
+    record { s_after = stored-columns c.requires.held _ _ _ _ z c.columns_both-2.ensures.s_after; t_after = stored-columns c.requires.held _ _ _ _ z c.columns_both-2.ensures.t_after }

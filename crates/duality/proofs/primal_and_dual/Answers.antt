@@ -7,5 +7,4 @@ pub returns : goal.returns
 unfolding primal_of dual_of
 returns c =
     let w = c.requires.laid in
-    let d = c.three_dots-d.ensures in
-    record { primal_value = rw (d.0, c.norm_1.ensures, w.at-z, w.at-w); dual_value = rw (c.maximum.ensures, d.1.0, d.1.1, w.at-nu, w.at_y) }
+    record { primal_value = rw (c.three_dots-d.ensures.aa_value, c.norm_1.ensures, w.at-z, w.at-w); dual_value = rw (c.maximum.ensures, c.three_dots-d.ensures.bb_value, c.three_dots-d.ensures.bc_value, w.at-nu, w.at_y) }

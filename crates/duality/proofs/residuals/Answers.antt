@@ -16,5 +16,4 @@ pub returns : goal.returns
 returns c =
     let z = c.start_residuals.ensures in
     let nu = c.times.ensures in
-    let both = c.transposed_both.ensures in
-    record { makes = residuals-left c.requires.held c.args.t z nu both.0; gradphi = gradphi-made c.requires.held c.args.t z nu _ _ (omega arith) both.1 }
+    record { makes = residuals-left c.requires.held c.args.t z nu c.transposed_both.ensures.s_after; gradphi = gradphi-made c.requires.held c.args.t z nu _ _ (omega arith) c.transposed_both.ensures.t_after }

@@ -21,9 +21,7 @@ pub terms_of-tm-requires : goal.terms_of-tm-requires
 terms_of-tm-requires c = omega (arith, c.requires.accepted.rows)
 
 pub go-requires : goal.go-requires
-go-requires c =
-    let a = c.requires in
-    record { held = holds c.sizes_of-sh.ensures c.place-l.ensures a.0; limit_bound = few-rounds a.0; rec_value = a.1 }
+go-requires c = record { held = holds c.sizes_of-sh.ensures c.place-l.ensures c.requires.accepted; limit_bound = few-rounds c.requires.accepted; rec_value = c.requires.rec_value }
 
 pub tidy-requires : goal.tidy-requires
 tidy-requires c =

@@ -55,4 +55,4 @@ loop-j-preserved c =
     )
 
 pub returns : goal.returns
-returns c = let inv = c.loop-j.invariant in record { s_after = made_all inv.0 (omega arith) ∙ ap (put _ _) (four-all c.requires.four_add c.args.z _ _); y_after = made_all inv.1 (omega arith) ∙ ap (put _ _) (four-all c.requires.four_add c.args.s _ _) }
+returns c = let inv = c.loop-j.invariant in record { s_after = made_all inv.0 (omega arith) ∙ ap (put _ _) (four-all c.requires.four_add c.args.x _ _); y_after = made_all inv.1 (omega arith) ∙ ap (put _ _) (four-all c.requires.four_add c.args.z _ _) }

@@ -6,9 +6,7 @@ use Rattle.lazy_columns_both.proofs.Both.{in-turn}
 use Rattle.lazy_columns_both.proofs.columns_both.Goals as goal
 
 pub one_pass-requires : goal.one_pass-requires
-one_pass-requires c =
-    let pre = c.requires in
-    record { first = pre.0; second = pre.1.0; other = pre.1.1; there = sym c.all_there.ensures ∙ c.if-all_there.true }
+one_pass-requires c = record { first = c.requires.reads; second = c.requires.reads_2; other = c.requires.p_in_bounds; there = sym c.all_there.ensures ∙ c.if-all_there.true }
 
 pub returns-then-all_there : goal.returns-then-all_there
 returns-then-all_there c =

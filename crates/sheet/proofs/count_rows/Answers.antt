@@ -26,8 +26,8 @@ slice_bounds-count_body-count c =
     let within : c.body_at.result ≤ length c.args.b.now = body-within c.args.b.now _ c.body_at.ensures laid in
     omega (arith, within)
 
-pub TODO-slice-bounds-count-body-start : goal.TODO-slice-bounds-count-body-start
-TODO-slice-bounds-count-body-start c =
+pub slice_bounds-count_body-start : goal.slice_bounds-count_body-start
+slice_bounds-count_body-start c =
     let laid : Laid (body_of c.args.b.now) = let k = c.header_check-c in
     laid-fine 1 2 _ k.result k.ensures c.in_default.is in
     let within : c.body_at.result ≤ length c.args.b.now = body-within c.args.b.now _ c.body_at.ensures laid in

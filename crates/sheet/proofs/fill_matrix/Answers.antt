@@ -38,11 +38,11 @@ pub loop-i-preserved : goal.loop-i-preserved
 loop-i-preserved c =
     let g = c.args in
     let v = c.loop-i.invariant in
-    let r = c.fill_row-k.ensures in (
+    (
       omega arith,
       omega arith,
-      r.0 ∙ rw v.2 (sym (place-next g.b.now g.p c.loop-i.i _ refl)),
-      rw r.0 (row_more g.b.now g.p g.n c.loop-i.i g.x.now _ refl c.loop-i-test.true v.2 v.3 r.1),
+      c.fill_row-k.ensures.value ∙ rw v.2 (sym (place-next g.b.now g.p c.loop-i.i _ refl)),
+      rw c.fill_row-k.ensures.value (row_more g.b.now g.p g.n c.loop-i.i g.x.now _ refl c.loop-i-test.true v.2 v.3 c.fill_row-k.ensures.x_after),
     )
 
 pub returns : goal.returns

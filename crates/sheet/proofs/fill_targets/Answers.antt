@@ -36,10 +36,10 @@ pub loop-i-preserved : goal.loop-i-preserved
 loop-i-preserved c =
     let g = c.args in
     let v = c.loop-i.invariant in
-    let r = c.fill_score-k.ensures in (
+    (
       omega arith,
-      r.0 ∙ rw v.1 (sym (place-next g.b.now g.p c.loop-i.i _ refl)),
-      rw r.0 (score-more g.b.now g.p g.n c.loop-i.i g.y.now _ refl c.loop-i-test.true v.1 v.2 r.1),
+      c.fill_score-k.ensures.value ∙ rw v.1 (sym (place-next g.b.now g.p c.loop-i.i _ refl)),
+      rw c.fill_score-k.ensures.value (score-more g.b.now g.p g.n c.loop-i.i g.y.now _ refl c.loop-i-test.true v.1 v.2 c.fill_score-k.ensures.y_after),
     )
 
 pub shape_of-y : goal.shape_of-y

@@ -21,8 +21,8 @@ slice_bounds-read_body-count c =
     let within : c.body_at.result ≤ length c.args.b.now = body-within c.args.b.now _ c.body_at.ensures laid in
     omega (arith, within)
 
-pub TODO-slice-bounds-read-body-start : goal.TODO-slice-bounds-read-body-start
-TODO-slice-bounds-read-body-start c =
+pub slice_bounds-read_body-start : goal.slice_bounds-read_body-start
+slice_bounds-read_body-start c =
     let laid : Laid (body_of c.args.b.now) = let k = c.count_rows in
     (counted-header _ _ _ k.result k.ensures c.in-Sheet.is).0 in
     let within : c.body_at.result ≤ length c.args.b.now = body-within c.args.b.now _ c.body_at.ensures laid in

@@ -23,5 +23,4 @@ pub returns : goal.returns
 returns c =
     let is-due : let g = c.args in Due (length g.header.now) (length g.place.now) ≡ true = sym c.due.ensures ∙ c.if-not-due.false in
     let g = c.args in
-    let t = c.tell.ensures in
-    count-due g.bytes.now g.rows g.cols g.header.now g.place.now is-due c.count_rows-o.ensures t.0 t.1.0 t.1.1
+    count-due g.bytes.now g.rows g.cols g.header.now g.place.now is-due c.count_rows-o.ensures c.tell.ensures.value c.tell.ensures.header_after c.tell.ensures.place_after

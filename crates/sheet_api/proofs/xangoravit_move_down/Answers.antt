@@ -39,6 +39,5 @@ unfolding move_down_words
 returns c =
     let is-due : let g = c.args in eqb (length g.moved.now) 2 && eqb (length g.place.now) 1 ≡ true = sym c.due.ensures ∙ c.if-not-due.false in
     let g = c.args in
-    let t = c.tell_move.ensures in
     move-told (down_move g.bytes.now g.out.now) (down_check g.bytes.now (length g.out.now)) g.out.now g.moved.now g.place.now is-due
-    c.move_down.ensures t.0 t.1.0 t.1.1
+    c.move_down.ensures c.tell_move.ensures.value c.tell_move.ensures.moved_after c.tell_move.ensures.place_after

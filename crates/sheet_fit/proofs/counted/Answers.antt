@@ -9,8 +9,8 @@ overflow_mul-n c =
     let sized : c.args.n * c.args.p ≤ 4096 = area _ _ c.requires.n_bound c.requires.p_bound in
     omega (arith, sized)
 
-pub TODO-slice-bounds-matrix-end : goal.TODO-slice-bounds-matrix-end
-TODO-slice-bounds-matrix-end c =
+pub slice_bounds-matrix-end : goal.slice_bounds-matrix-end
+slice_bounds-matrix-end c =
     let sized : c.args.n * c.args.p ≤ 4096 = area _ _ c.requires.n_bound c.requires.p_bound in
     omega (arith, sized)
 

@@ -26,8 +26,8 @@ slice_bounds-body-count c =
     let within : c.body_at.result ≤ length c.args.b.now = body-within c.args.b.now _ c.body_at.ensures laid in
     omega (arith, within)
 
-pub TODO-slice-bounds-body-start : goal.TODO-slice-bounds-body-start
-TODO-slice-bounds-body-start c =
+pub slice_bounds-body-start : goal.slice_bounds-body-start
+slice_bounds-body-start c =
     let laid : Laid (body_of c.args.b.now) = let k = c.header_check-c in
     laid-fine 1 2 _ k.result k.ensures c.in_default.is in
     let within : c.body_at.result ≤ length c.args.b.now = body-within c.args.b.now _ c.body_at.ensures laid in
@@ -37,7 +37,7 @@ pub two_bytes-requires : goal.two_bytes-requires
 two_bytes-requires c =
     let laid : Laid (body_of c.args.b.now) = let k = c.header_check-c in
     laid-fine 1 2 _ k.result k.ensures c.in_default.is in
-    let long : 33 ≤ length (lent-from c.args.b.now c.body_at.result) = let h = laid c in
+    let long : 33 ≤ length (lent-from c.args.b.now c.body_at.result) = let h = laid in
     rw (body-lent c.args.b.now c.body_at.result c.body_at.ensures) (omega arith) in
     omega (arith, long)
 
@@ -45,7 +45,7 @@ pub header_of-requires : goal.header_of-requires
 header_of-requires c =
     let laid : Laid (body_of c.args.b.now) = let k = c.header_check-c in
     laid-fine 1 2 _ k.result k.ensures c.in_default.is in
-    let long : 33 ≤ length (lent-from c.args.b.now c.body_at.result) = let h = laid c in
+    let long : 33 ≤ length (lent-from c.args.b.now c.body_at.result) = let h = laid in
     rw (body-lent c.args.b.now c.body_at.result c.body_at.ensures) (omega arith) in
     long
 

@@ -40,8 +40,8 @@ slice_bounds-body_moves-count c =
     let within : c.body_at.result ≤ length c.args.b.now = body-within c.args.b.now _ c.body_at.ensures laid in
     omega (arith, within)
 
-pub TODO-slice-bounds-body-moves-start : goal.TODO-slice-bounds-body-moves-start
-TODO-slice-bounds-body-moves-start c =
+pub slice_bounds-body_moves-start : goal.slice_bounds-body_moves-start
+slice_bounds-body_moves-start c =
     let laid : Laid (body_of c.args.b.now) = let k = c.header_check-c in
     laid-fine _ _ _ k.result k.ensures c.in-Fine.is in
     let within : c.body_at.result ≤ length c.args.b.now = body-within c.args.b.now _ c.body_at.ensures laid in

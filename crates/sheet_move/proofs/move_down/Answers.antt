@@ -26,8 +26,8 @@ slice_bounds-write_version-count c =
     down_fits _ _ (sym k.ensures ∙ c.in_default.is) in
     omega (arith, fits)
 
-pub TODO-slice-bounds-write-version-start : goal.TODO-slice-bounds-write-version-start
-TODO-slice-bounds-write-version-start c =
+pub slice_bounds-write_version-start : goal.slice_bounds-write_version-start
+slice_bounds-write_version-start c =
     let fits : let g = c.args in
     (9 ≤ length g.b.now) × (length g.b.now - 4 ≤ length g.out.now) = let k = c.down_check-c in
     down_fits _ _ (sym k.ensures ∙ c.in_default.is) in

@@ -19,8 +19,8 @@ slice_bounds-write_version-count c =
     up_fits _ _ (sym k.ensures ∙ c.in_default.is) in
     omega (arith, fits)
 
-pub TODO-slice-bounds-write-version-start : goal.TODO-slice-bounds-write-version-start
-TODO-slice-bounds-write-version-start c =
+pub slice_bounds-write_version-start : goal.slice_bounds-write_version-start
+slice_bounds-write_version-start c =
     let fits : let g = c.args in
     (5 ≤ length g.b.now) × (length g.b.now + 4 ≤ length g.out.now) = let k = c.up_check-c in
     up_fits _ _ (sym k.ensures ∙ c.in_default.is) in

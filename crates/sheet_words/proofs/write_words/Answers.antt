@@ -11,8 +11,8 @@ bounds-out-1 c = simp length-set (omega arith)
 pub slice_bounds-write_settings-count : goal.slice_bounds-write_settings-count
 slice_bounds-write_settings-count c = simp length-set (omega (arith, c.requires))
 
-pub TODO-slice-bounds-write-settings-start : goal.TODO-slice-bounds-write-settings-start
-TODO-slice-bounds-write-settings-start c = simp length-set (omega (arith, c.requires))
+pub slice_bounds-write_settings-start : goal.slice_bounds-write_settings-start
+slice_bounds-write_settings-start c = simp length-set (omega (arith, c.requires))
 
 pub write_settings-requires : goal.write_settings-requires
 write_settings-requires c = c.write_settings-arg-1.given.2 ∙ simp length-set (omega (arith, c.requires))

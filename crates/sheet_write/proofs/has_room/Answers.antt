@@ -44,9 +44,6 @@ returns-then-room-at c = no-head _ _ _ _ c.if-room-at.true
 pub returns-then-n-eq0 : goal.returns-then-n-eq0
 returns-then-n-eq0 c = no_rows _ _ _ _ c.if-room-at.false c.if-n-eq0.true
 
-pub TODO-nonzero-div-each : goal.TODO-nonzero-div-each
-TODO-nonzero-div-each c = omega (arith, c.if-n-eq0.false)
-
 pub returns-then-each-lt12 : goal.returns-then-each-lt12
 returns-then-each-lt12 c = no_room _ _ _ _ c.if-room-at.false c.if-n-eq0.false (omega arith)
 

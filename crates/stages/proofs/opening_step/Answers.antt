@@ -6,7 +6,7 @@ use Rattle.stages.proofs.Moves.{opening-ready, opening-done, opening-fails}
 use Rattle.stages.proofs.opening_step.Goals as goal
 
 pub open-requires : goal.open-requires
-open-requires c = let p = c.requires in record { held = p.0; known = p.1.0 }
+open-requires c = record { held = c.requires.held; known = c.requires.known }
 
 pub returns-in-Ready : goal.returns-in-Ready
 unfolding round+

@@ -10,9 +10,7 @@ pub loop-left-init : goal.loop-left-init
 loop-left-init c = record { same = refl; excess = refl; long = refl; sane = c.requires.sane; newz = unknown c.args.sh c.args.tm _ _ _ }
 
 pub one_step-o-requires : goal.one_step-o-requires
-one_step-o-requires c =
-    let p = c.requires in
-    record { held = held_on p.0 c.loop-left.invariant.long; known_at = c.loop-left.invariant.newz; sane = c.loop-left.invariant.sane; limit_bound = p.1.1 }
+one_step-o-requires c = record { held = held_on c.requires.held c.loop-left.invariant.long; known_at = c.loop-left.invariant.newz; sane = c.loop-left.invariant.sane; limit_bound = c.requires.limit_bound }
 
 pub returns-in_default : goal.returns-in_default
 returns-in_default c =
