@@ -50,8 +50,8 @@ loop-j-preserved c =
     let g = c.args in
     let h = c.loop-j-test.true in
     let e : two.k ≡ 4 = omega arith in (
-      four-more c.requires.four_add g.t4 c.loop-j.invariant.0 h c.loop-j.invariant.0 (rw e at two.invariant.1),
-      four-first c.requires.four_add g.t5 c.loop-j.invariant.0 h c.loop-j.invariant.1 (rw e at two.invariant.2),
+      four-more c.requires.four_add g.x c.loop-j.invariant.0 h c.loop-j.invariant.0 (rw e at two.invariant.1),
+      four-first c.requires.four_add g.z c.loop-j.invariant.0 h c.loop-j.invariant.1 (rw e at two.invariant.2),
     )
 
 pub returns : goal.returns

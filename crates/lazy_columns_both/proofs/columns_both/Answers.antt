@@ -9,9 +9,7 @@ pub one_pass-requires : goal.one_pass-requires
 one_pass-requires c = record { first = c.requires.reads; second = c.requires.reads_2; other = c.requires.p_in_bounds; there = sym c.all_there.ensures ∙ c.if-all_there.true }
 
 pub returns-then-all_there : goal.returns-then-all_there
-returns-then-all_there c =
-    let both = c.one_pass.ensures in
-    record { s_after = both.0; y_after = both.1 }
+returns-then-all_there c = record { s_after = c.one_pass.ensures.s_after; y_after = c.one_pass.ensures.y_after }
 
 pub columns-requires : goal.columns-requires
 columns-requires c = c.requires.reads_2

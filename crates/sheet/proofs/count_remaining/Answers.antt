@@ -1,11 +1,11 @@
 use mathlib.Core.Path.{◌≡◌, sym, ◌∙◌}
-use mathlib.Core.Logic.{⊎_elim}
 use Prim.Native.Nat.{◌+◌, ◌-◌, ◌*◌, ◌≤◌}
 use native.Mathlib.Omega.{arith}
 use borrow.Author.Tests.{not-true, not-false}
 use Rattle.matrices.proofs.Lengths.{row_room}
 use Rattle.sheet.proofs.Remaining.{place, none, place-next, place-most}
 use Rattle.sheet.proofs.count_remaining.Goals as goal
+use Rattle.sheet.proofs.count_remaining.Goals.{then-not-is_cancelled, else-not-is_cancelled}
 
 pub loop-i-init : goal.loop-i-init
 loop-i-init c = (omega arith, none _ _)
@@ -25,10 +25,12 @@ loop-i-preserved c =
     let g = c.args in
     let e = c.is_cancelled.ensures in (
       omega arith,
-      ⊎_elim
-          (λ w. w.1 ∙ rw c.loop-i.invariant.1 (sym (place-next g.b.now g.p c.loop-i.i _ (sym e ∙ not-true _ w.0.taken))))
-          (λ w. w.1 ∙ c.loop-i.invariant.1 ∙ sym (place-next g.b.now g.p c.loop-i.i _ (sym e ∙ not-false _ w.0.left)))
-          c.if-not-is_cancelled.branch,
+      elim c.if-not-is_cancelled.branch [
+        | then-not-is_cancelled w ↦
+            w.left-is ∙ rw c.loop-i.invariant.1 (sym (place-next g.b.now g.p c.loop-i.i _ (sym e ∙ w.if-not-is_cancelled.true)))
+        | else-not-is_cancelled w ↦
+            w.left-is ∙ c.loop-i.invariant.1 ∙ sym (place-next g.b.now g.p c.loop-i.i _ (sym e ∙ w.if-not-is_cancelled.false))
+      ],
     )
 
 pub returns : goal.returns

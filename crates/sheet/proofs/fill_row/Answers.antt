@@ -6,7 +6,7 @@ use Rattle.sheet.specs.Rows.{cancelled}
 use Rattle.sheet.proofs.fill_row.Goals as goal
 
 pub returns-then-is_cancelled : goal.returns-then-is_cancelled
-returns-then-is_cancelled c = rw (sym c.is_cancelled.ensures ∙ c.if-is_cancelled.true) (refl, refl)
+returns-then-is_cancelled c = rw (sym c.is_cancelled.ensures ∙ c.if-is_cancelled.true) record { value = refl; x_after = refl }
 
 pub overflow_mul-k : goal.overflow_mul-k
 overflow_mul-k c =
@@ -21,4 +21,4 @@ fill_features-requires c =
 pub returns : goal.returns
 returns c =
     let uncancelled : let g = c.args in cancelled g.b.now g.p g.i ≡ false = sym c.is_cancelled.ensures ∙ c.if-is_cancelled.false in
-    rw uncancelled (refl, rw c.row_at.ensures at c.fill_features.ensures)
+    rw uncancelled record { value = refl; x_after = rw c.row_at.ensures at c.fill_features.ensures }

@@ -7,7 +7,7 @@ use Rattle.sheet.specs.Rows.{cancelled}
 use Rattle.sheet.proofs.fill_score.Goals as goal
 
 pub returns-then-is_cancelled : goal.returns-then-is_cancelled
-returns-then-is_cancelled c = rw (sym c.is_cancelled.ensures ∙ c.if-is_cancelled.true) (refl, refl)
+returns-then-is_cancelled c = rw (sym c.is_cancelled.ensures ∙ c.if-is_cancelled.true) record { value = refl; y_after = refl }
 
 pub offset_bounds-y-k : goal.offset_bounds-y-k
 offset_bounds-y-k c =
@@ -27,4 +27,4 @@ overflow_add-result c =
 pub returns : goal.returns
 returns c =
     let uncancelled : let g = c.args in cancelled g.b.now g.p g.i ≡ false = sym c.is_cancelled.ensures ∙ c.if-is_cancelled.false in
-    rw uncancelled (refl, rw (c.float_at.ensures, c.row_at.ensures))
+    rw uncancelled record { value = refl; y_after = rw (c.float_at.ensures, c.row_at.ensures) }

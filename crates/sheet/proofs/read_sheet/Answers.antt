@@ -32,7 +32,7 @@ pub read_body-requires : goal.read_body-requires
 read_body-requires c =
     let k = c.count_rows in
     let h = counted-header _ _ _ k.result k.ensures c.in-Sheet.is in
-    rw (body-lent c.args.b.now c.body_at.result c.body_at.ensures) (h.0, (h.1, h.2))
+    rw (body-lent c.args.b.now c.body_at.result c.body_at.ensures) record { b_len = h.0; n_value = h.1; p_value = h.2 }
 
 pub returns-in-Refused : goal.returns-in-Refused
 returns-in-Refused c =
