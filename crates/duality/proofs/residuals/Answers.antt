@@ -10,7 +10,7 @@ start_residuals-requires c =
     record { held = both.0; known = both.1 }
 
 pub transposed_both-requires : goal.transposed_both-requires
-transposed_both-requires c = (held_on c.requires.held (omega arith), omega arith)
+transposed_both-requires c = record { held = held_on c.requires.held (omega arith); p_bound = omega arith; y_le_v = omega arith; k_bound = omega arith; y_le_w = omega arith; k_bound_2 = omega arith; p_in_bounds = omega arith }
 
 pub returns : goal.returns
 returns c =

@@ -19,7 +19,8 @@ loop-i-init c =
 pub add_four-requires : goal.add_four-requires
 add_four-requires c =
     let g = c.args in
-    let h : 4 * c.loop-i.i + 4 ≤ g.n = omega arith in record { four_add = record {
+    let h : 4 * c.loop-i.i + 4 ≤ g.n = omega arith in record {
+      four_add = record {
         last = omega (arith, add-mul (4 * c.loop-i.i) 4 g.p, mul-le-mul_right g.p h);
         centres = c.requires.first.centres;
         scales = c.requires.first.scales;
@@ -27,7 +28,9 @@ add_four-requires c =
         room = omega arith;
         off-columns = c.requires.first.off-columns;
         there = rw (while-made c.requires.first (omega arith) c.loop-i.invariant.1).reciprocals c.requires.there;
-      }; p_in_bounds = omega arith }
+      };
+      p_in_bounds = omega arith;
+    }
 
 pub loop-i-preserved : goal.loop-i-preserved
 loop-i-preserved c =

@@ -38,6 +38,9 @@ pub returns : goal.returns
 returns c =
     let g = c.args in
     let own = c.sums.ensures.s_after in
-    let added = added-length g.n g.p g.m.now in record { s_after = finished g.m.now g.n g.p g.s.now g.l g.v g.t _ _ _ _ c.requires.first.room own _ (sums_kept c.requires.first _ (added _ _ _ _ _) own) c.augment.ensures; y_after = finished g.m.now g.n g.p g.s.now g.l g.w g.t _ _ _ 0 (omega arith) c.sums.ensures.y_after _
+    let added = added-length g.n g.p g.m.now in record {
+      s_after = finished g.m.now g.n g.p g.s.now g.l g.v g.t _ _ _ _ c.requires.first.room own _ (sums_kept c.requires.first _ (added _ _ _ _ _) own) c.augment.ensures;
+      y_after = finished g.m.now g.n g.p g.s.now g.l g.w g.t _ _ _ 0 (omega arith) c.sums.ensures.y_after _
           (sums_kept (reads_on c.requires.second (omega arith)) _ (length-zip _ _ _ _) c.augment.ensures ∙ sums_kept c.requires.second _ (added _ _ _ _ _) own)
-          (in_two g.t g.p _ _ _ _ (omega arith) c.times.ensures c.add_scaled_from.ensures) }
+          (in_two g.t g.p _ _ _ _ (omega arith) c.times.ensures c.add_scaled_from.ensures);
+    }

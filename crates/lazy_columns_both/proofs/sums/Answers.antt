@@ -20,6 +20,9 @@ returns c =
     let n = 4 * (g.n / 4) in
     let d = cleared _ _ _ _ c.fill.ensures in
     let f = fours-made g.m.now _ g.n g.p n g.l g.v _ _ _ c.add_fours.ensures.s_after in
-    let h = fours-made g.m.now _ g.n g.p n g.l g.w _ _ _ c.add_fours.ensures.y_after in record { s_after = all-rows c.requires.first d _ _ _ _ c.requires.first.room c.fill.ensures
-          (rest-made g.m.now (reads_on c.requires.first d.long) f n (omega arith) _ _ _ _ (omega arith) f c.add_rest.ensures.s_after); y_after = all-rows c.requires.second d _ _ _ 0 (omega arith) c.fill-2.ensures
-          (rest-made g.m.now (reads_on c.requires.second d.long) f n (omega arith) _ _ _ _ (omega arith) h c.add_rest.ensures.y_after) }
+    let h = fours-made g.m.now _ g.n g.p n g.l g.w _ _ _ c.add_fours.ensures.y_after in record {
+      s_after = all-rows c.requires.first d _ _ _ _ c.requires.first.room c.fill.ensures
+          (rest-made g.m.now (reads_on c.requires.first d.long) f n (omega arith) _ _ _ _ (omega arith) f c.add_rest.ensures.s_after);
+      y_after = all-rows c.requires.second d _ _ _ 0 (omega arith) c.fill-2.ensures
+          (rest-made g.m.now (reads_on c.requires.second d.long) f n (omega arith) _ _ _ _ (omega arith) h c.add_rest.ensures.y_after);
+    }

@@ -101,8 +101,7 @@ loop-k-else-by-preserved c =
     (row-term row3 c.loop-j.j c.loop-j-test.true (multiplied _ _ _ _ c.if-by.false))
 
 pub loop-j-preserved : goal.loop-j-preserved
-loop-j-preserved c =
-    (
+loop-j-preserved c = (
   omega arith,
   elim c.if-by.branch [
     | then-by+else-loop-k-test w ↦ rw w.x-is (several-turn w.loop-k.invariant (omega arith))

@@ -12,11 +12,10 @@ pub loop-j-init : goal.loop-j-init
 loop-j-init c = (omega arith, sym (fold-none _ _ _))
 
 pub loop-j-preserved : goal.loop-j-preserved
-loop-j-preserved c =
-    (
-      omega arith,
-      fold-turn _ _ _ _ _ _ c.loop-j.invariant.1 (row-term c.requires c.loop-j.j c.loop-j-test.true c.normalise.ensures),
-    )
+loop-j-preserved c = (
+  omega arith,
+  fold-turn _ _ _ _ _ _ c.loop-j.invariant.1 (row-term c.requires c.loop-j.j c.loop-j-test.true c.normalise.ensures),
+)
 
 pub returns : goal.returns
 returns c =

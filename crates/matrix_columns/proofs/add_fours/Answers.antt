@@ -16,13 +16,16 @@ pub add_four-requires : goal.add_four-requires
 add_four-requires c =
     let g = c.args in
     let i = c.loop-i.i in
-    let h = rows-room (4 * i) 4 (4 * g.q) g.cols (omega arith) in record { by_in_bounds = omega arith; four = record {
+    let h = rows-room (4 * i) 4 (4 * g.q) g.cols (omega arith) in record {
+      by_in_bounds = omega arith;
+      four = record {
         room = omega arith;
         last = omega arith;
         clear = λ k l.
             let e : c.loop-i.at + k * g.cols ≡ g.mat + (4 * i + k) * g.cols = omega (arith, add-mul (4 * i) k g.cols) in
             rw e (clear-row c.requires (4 * i + k) (omega arith));
-      } }
+      };
+    }
 
 pub overflow_mul-at : goal.overflow_mul-at
 overflow_mul-at c =

@@ -38,6 +38,9 @@ returns c =
     let n = 4 * (c.args.rows / 4) in
     let h : n ≤ c.args.rows = omega arith in
     let none = filled _ _ _ _ c.fill.ensures in
-    let some = made_of _ _ _ _ _ c.add_fours_both.ensures.s_after in record { s_after = columns-left (alike c.requires.together none) none c.requires.together.room n h (alike (together-on none.long c.requires.together) some) _ _
-          c.add_fours_both.ensures.s_after c.add_rows_both.ensures.s_after; t_after = columns-left (alike c.requires.together_2 none) (filled _ _ _ _ c.fill-2.ensures) (omega (arith, c.requires.cols_in_bounds)) n h
-          (alike (together-on none.long c.requires.together_2) some) _ _ c.add_fours_both.ensures.t_after c.add_rows_both.ensures.t_after }
+    let some = made_of _ _ _ _ _ c.add_fours_both.ensures.s_after in record {
+      s_after = columns-left (alike c.requires.together none) none c.requires.together.room n h (alike (together-on none.long c.requires.together) some) _ _
+          c.add_fours_both.ensures.s_after c.add_rows_both.ensures.s_after;
+      t_after = columns-left (alike c.requires.together_2 none) (filled _ _ _ _ c.fill-2.ensures) (omega (arith, c.requires.cols_in_bounds)) n h
+          (alike (together-on none.long c.requires.together_2) some) _ _ c.add_fours_both.ensures.t_after c.add_rows_both.ensures.t_after;
+    }

@@ -8,15 +8,12 @@ use Rattle.newton_step.proofs.Stores.{gradient-left}
 use Rattle.newton_step.proofs.gradient.Goals as goal
 
 pub gradphi-requires : goal.gradphi-requires
-gradphi-requires c =
-    let both = c.requires in
-    record { held = both.0; gradphi = both.1 }
+gradphi-requires c = record { held = c.requires.held; gradphi = c.requires.gradphi }
 
 pub overflow_add-l : goal.overflow_add-l
 overflow_add-l c =
     let r = c.requires.held.room in
     let l = r.laid.at-grad in
-    let f = c.good.1.1.1.0.0 in
     omega arith
 
 pub negated_g2-requires : goal.negated_g2-requires

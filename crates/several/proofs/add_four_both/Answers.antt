@@ -14,8 +14,11 @@ add_products_both-requires c = record { four = c.requires.four; n_in_bounds = c.
 pub returns : goal.returns
 returns c =
     let g = c.args in
-    let s = g.s.now in record { s_after = c.add_products_both.ensures.s_after
+    let s = g.s.now in record {
+      s_after = c.add_products_both.ensures.s_after
           ∙ ap (put _ _)
-          (added-read _ _ _ _ (λ k. s ! (g.l + k)) _ _ _ _ _ c.four_at-x.ensures (λ k h. ap (λ (a : ℕ). s ! a) (omega (arith, mul-one k)))); t_after = c.add_products_both.ensures.t_after
+          (added-read _ _ _ _ (λ k. s ! (g.l + k)) _ _ _ _ _ c.four_at-x.ensures (λ k h. ap (λ (a : ℕ). s ! a) (omega (arith, mul-one k))));
+      t_after = c.add_products_both.ensures.t_after
           ∙ ap (put _ _)
-          (added-read _ _ _ _ (λ k. s ! (g.w + k)) _ _ _ _ _ c.four_at-z.ensures (λ k h. ap (λ (a : ℕ). s ! a) (omega (arith, mul-one k)))) }
+          (added-read _ _ _ _ (λ k. s ! (g.w + k)) _ _ _ _ _ c.four_at-z.ensures (λ k h. ap (λ (a : ℕ). s ! a) (omega (arith, mul-one k))));
+    }

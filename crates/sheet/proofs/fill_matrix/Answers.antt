@@ -31,14 +31,17 @@ pub fill_row-k-requires : goal.fill_row-k-requires
 fill_row-k-requires c =
     let g = c.args in
     let i = c.loop-i.i in
-    let h = c.loop-i-test.true in record { p_in_bounds = omega (arith, row_room i g.n (12 + 8 * g.p) h); k_le_i = omega (arith, place-most g.b.now g.p i); p_in_bounds_2 = λ e. let k : c.loop-i.k < place g.b.now g.p g.n = rw c.loop-i.invariant.2 (room_for g.b.now g.p i g.n h e) in
-            omega (arith, row_room c.loop-i.k (place g.b.now g.p g.n) g.p k) }
+    let h = c.loop-i-test.true in record {
+      p_in_bounds = omega (arith, row_room i g.n (12 + 8 * g.p) h);
+      k_le_i = omega (arith, place-most g.b.now g.p i);
+      p_in_bounds_2 = λ e. let k : c.loop-i.k < place g.b.now g.p g.n = rw c.loop-i.invariant.2 (room_for g.b.now g.p i g.n h e) in
+          omega (arith, row_room c.loop-i.k (place g.b.now g.p g.n) g.p k);
+    }
 
 pub loop-i-preserved : goal.loop-i-preserved
 loop-i-preserved c =
     let g = c.args in
-    let v = c.loop-i.invariant in
-    (
+    let v = c.loop-i.invariant in (
       omega arith,
       omega arith,
       c.fill_row-k.ensures.value ∙ rw v.2 (sym (place-next g.b.now g.p c.loop-i.i _ refl)),

@@ -29,14 +29,16 @@ pub fill_score-k-requires : goal.fill_score-k-requires
 fill_score-k-requires c =
     let g = c.args in
     let i = c.loop-i.i in
-    let h = c.loop-i-test.true in record { p_in_bounds = omega (arith, row_room i g.n (12 + 8 * g.p) h); k_in_bounds = λ e. let k : c.loop-i.k < place g.b.now g.p g.n = rw c.loop-i.invariant.1 (room_for g.b.now g.p i g.n h e) in
-          omega (arith, c.loop-i.invariant.2.long, c.requires.y_len) }
+    let h = c.loop-i-test.true in record {
+      p_in_bounds = omega (arith, row_room i g.n (12 + 8 * g.p) h);
+      k_in_bounds = λ e. let k : c.loop-i.k < place g.b.now g.p g.n = rw c.loop-i.invariant.1 (room_for g.b.now g.p i g.n h e) in
+          omega (arith, c.loop-i.invariant.2.long, c.requires.y_len);
+    }
 
 pub loop-i-preserved : goal.loop-i-preserved
 loop-i-preserved c =
     let g = c.args in
-    let v = c.loop-i.invariant in
-    (
+    let v = c.loop-i.invariant in (
       omega arith,
       c.fill_score-k.ensures.value ∙ rw v.1 (sym (place-next g.b.now g.p c.loop-i.i _ refl)),
       rw c.fill_score-k.ensures.value (score-more g.b.now g.p g.n c.loop-i.i g.y.now _ refl c.loop-i-test.true v.1 v.2 c.fill_score-k.ensures.y_after),

@@ -3,4 +3,8 @@ use native.Mathlib.Omega.{arith}
 use Rattle.sheet_api.proofs.tell_move.Goals as goal
 
 pub returns : goal.returns
-returns c = rw (← c.check_moved.ensures) (c.answer.ensures.value, (c.write_moved.ensures, c.answer.ensures.place_after))
+returns c = rw (← c.check_moved.ensures) record {
+      value = c.answer.ensures.value;
+      moved_after = c.write_moved.ensures;
+      place_after = c.answer.ensures.place_after;
+    }

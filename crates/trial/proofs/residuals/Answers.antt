@@ -9,7 +9,7 @@ use Rattle.trial.proofs.residuals.Goals as goal
 pub matvec-requires : goal.matvec-requires
 matvec-requires c =
     let g = c.requires in
-    (g, omega arith)
+    record { held = g; p_bound = omega arith; y_le_out = omega arith; k_bound = omega arith }
 
 pub returns : goal.returns
 unfolding words
