@@ -95,7 +95,8 @@ def builds(archives, room, install):
     """The oracle, the driver's command, and a sum over all that an answer depends on. What cannot be installed is looked for first."""
     if not os.path.isdir(SOURCES):
         raise Missing(f"the oracle's sources are not at {SOURCES} (set XANGORAVIT_SRC)")
-    tool("RT", "rt")
+    if not archives:
+        tool("RT", "rt")  # tools/build runs it
     before = emulator()
     compiler = CROSS if before else NATIVE
     get(compiler, install)
