@@ -66,14 +66,13 @@ def oracle():
     return f"{BUILD}/oracle-fixed"
 
 
-def emulator(rt):
-    """Our archives are built for x86-64. What a program for that runs in: nothing, or on another machine the kit's emulator."""
+def emulator():
+    """Our archives are built for x86-64. What a program for that runs in: nothing, or on another machine an emulator."""
     if platform.machine() == "x86_64":
         return []
-    kit = os.environ.get("RATTLE_HOME") or os.path.dirname(os.path.dirname(os.path.realpath(shutil.which(rt))))
-    path = f"{kit}/on/{platform.machine()}/toolchain/bin/qemu-x86_64"
-    if not os.path.exists(path):
-        raise Missing(f"our archives are built for x86-64, and this machine is {platform.machine()}, without {path}")
+    path = shutil.which("qemu-x86_64")
+    if not path:
+        raise Missing(f"our archives are built for x86-64, and this machine is {platform.machine()}, without qemu-x86_64 (Debian's qemu-user)")
     return [path]
 
 
@@ -96,16 +95,16 @@ def builds(archives, room, install):
     """The oracle, the driver's command, and a sum over all that an answer depends on. What cannot be installed is looked for first."""
     if not os.path.isdir(SOURCES):
         raise Missing(f"the oracle's sources are not at {SOURCES} (set XANGORAVIT_SRC)")
-    rt = tool("RT", "rt")
-    before = emulator(rt)
+    if not archives:
+        tool("RT", "rt")  # tools/build runs it
+    before = emulator()
     compiler = CROSS if before else NATIVE
     get(compiler, install)
     linker = [tool("CC", compiler[0]), "-static" if before else "-no-pie"]  # what an emulator runs needs no loader
     new_enough(tool("RUSTC", "rustc"))
     judge = oracle()
     if not archives:
-        for crate in CRATES:
-            subprocess.run([rt, "staticlib", crate], cwd=REPOSITORY, check=True, stdout=sys.stderr)
+        subprocess.run([f"{REPOSITORY}/tools/build", *CRATES], check=True)
         archives = [f"{REPOSITORY}/target/staticlib/lib{crate}.a" for crate in CRATES]
     driver = linked(linker, archives, room)
     return judge, [*before, driver], sum_of([judge, driver, f"{HERE}/run", f"{REPOSITORY}/oracle/generate.py"])

@@ -20,8 +20,7 @@ use records::no_counts;
 use refusal::number;
 
 // The words of scratch that a fit needs: no refusal but 0, also where the settings have not their words.
-#[unsafe(no_mangle)]
-pub extern "C" fn xangoravit_scratch_words(n: usize, p: usize, settings: &[u64]) -> usize
+pub fn xangoravit_scratch_words(n: usize, p: usize, settings: &[u64]) -> usize
     ensures { ScratchCall n p settings.now result }
 {
     if settings.len() != SETTINGS_WORDS {
@@ -30,8 +29,7 @@ pub extern "C" fn xangoravit_scratch_words(n: usize, p: usize, settings: &[u64])
     scratch_words(n, p, settings_from(settings))
 }
 
-#[unsafe(no_mangle)]
-pub extern "C" fn xangoravit_start(
+pub fn xangoravit_start(
     n: usize,
     p: usize,
     x: &[f64],
@@ -54,8 +52,7 @@ pub extern "C" fn xangoravit_start(
     t.number
 }
 
-#[unsafe(no_mangle)]
-pub extern "C" fn xangoravit_resume(
+pub fn xangoravit_resume(
     n: usize,
     p: usize,
     x: &[f64],
@@ -93,8 +90,7 @@ pub extern "C" fn xangoravit_resume(
     t.number
 }
 
-#[unsafe(no_mangle)]
-pub extern "C" fn xangoravit_predict(
+pub fn xangoravit_predict(
     n: usize,
     p: usize,
     x: &[f64],
@@ -113,8 +109,7 @@ pub extern "C" fn xangoravit_predict(
     t.number
 }
 
-#[unsafe(no_mangle)]
-pub extern "C" fn xangoravit_solve(
+pub fn xangoravit_solve(
     n: usize,
     a: &[f64],
     b: &[f64],

@@ -22,8 +22,7 @@ const LG: [f64; 9] = [
 ];
 
 // -infinity for both zeros, +infinity for +infinity, and a NaN for a NaN and for everything below 0.
-#[unsafe(no_mangle)]
-pub extern "C" fn ln(x: f64) -> f64
+pub fn ln(x: f64) -> f64
     ensures { result ≡ ln_of x }
 {
     if x != x {

@@ -18,8 +18,7 @@ use refusal::Checked;
 use settings::{Terms, terms_of};
 
 // The solver inside a fit: its first lines, and `count` rounds. `given` has d1, d2, prb, prs, dxu and grad, in the order of the scratch.
-#[unsafe(no_mangle)]
-pub extern "C" fn measure_round(
+pub fn measure_round(
     gram: &[f64],
     given: &[f64],
     p: usize,
@@ -76,8 +75,7 @@ fn rounds(s: &mut [f64], sh: Sizes, l: Places, tol: f64, count: usize)
 
 // A piece of the work of a fit that normalises, whatever its settings say, and stores its design or not; `piece` says which, and what `given` is. What is lent is
 // checked as a start's is.
-#[unsafe(no_mangle)]
-pub extern "C" fn measure_piece(
+pub fn measure_piece(
     what: usize,
     m: &[f64],
     given: &[f64],

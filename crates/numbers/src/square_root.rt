@@ -19,8 +19,7 @@ const TWO_52: u64 = 0x10_0000_0000_0000;
 const BIAS: u64 = 2098 - 1127;
 
 // Both zeros and +infinity are their own roots; below 0, and of a NaN, it is a NaN.
-#[unsafe(no_mangle)]
-pub extern "C" fn root(x: f64) -> f64
+pub fn root(x: f64) -> f64
     ensures { result ≡ root_of x }
 {
     if x != x {

@@ -31,13 +31,7 @@ fn refuse(bytes: &[u8], rows: usize, cols: usize, place: &mut [u64]) -> u64
 }
 
 // The header of a sheet, as ten words; its n counts all rows, cancelled ones too. A refusal leaves them as they were.
-#[unsafe(no_mangle)]
-pub extern "C" fn xangoravit_read_header(
-    bytes: &[u8],
-    rows: usize,
-    cols: usize,
-    header: &mut [u64],
-) -> u64
+pub fn xangoravit_read_header(bytes: &[u8], rows: usize, cols: usize, header: &mut [u64]) -> u64
     ensures { HeaderCall bytes.now rows cols header.old result header.new }
 {
     let o = read_header(bytes, rows, cols);
@@ -49,8 +43,7 @@ pub extern "C" fn xangoravit_read_header(
 }
 
 // The header again, whose n is how many rows remain: x and y are lent for these. The place of a refusal is one word, and a refusal leaves the header's.
-#[unsafe(no_mangle)]
-pub extern "C" fn xangoravit_count_rows(
+pub fn xangoravit_count_rows(
     bytes: &[u8],
     rows: usize,
     cols: usize,
@@ -67,8 +60,7 @@ pub extern "C" fn xangoravit_count_rows(
 }
 
 // A sheet into x and y, its header as ten words, and the place of a refusal as one. A refusal leaves all but the place as it was.
-#[unsafe(no_mangle)]
-pub extern "C" fn xangoravit_read_sheet(
+pub fn xangoravit_read_sheet(
     bytes: &[u8],
     rows: usize,
     cols: usize,
@@ -144,8 +136,7 @@ fn write_in(
 }
 
 // A sheet of version 1 from n rows of p features, at the front of `out`: 38 + n(12 + 8p) bytes. The place of a refusal is one word; a refusal leaves `out`.
-#[unsafe(no_mangle)]
-pub extern "C" fn xangoravit_write_sheet_1(
+pub fn xangoravit_write_sheet_1(
     n: usize,
     p: usize,
     settings: &[u64],
@@ -174,8 +165,7 @@ pub extern "C" fn xangoravit_write_sheet_1(
 }
 
 // The same of version 2, with a family: 42 + n(12 + 8p) bytes.
-#[unsafe(no_mangle)]
-pub extern "C" fn xangoravit_write_sheet_2(
+pub fn xangoravit_write_sheet_2(
     family: u32,
     n: usize,
     p: usize,
@@ -247,8 +237,7 @@ fn write_moved(o: Moved, moved: &mut [u64])
 }
 
 // A sheet of version 1 with a family, at the front of `out`. Two words: its bytes, and the family; the place of a refusal is one. A refusal leaves all but that.
-#[unsafe(no_mangle)]
-pub extern "C" fn xangoravit_move_up(
+pub fn xangoravit_move_up(
     bytes: &[u8],
     family: u32,
     out: &mut [u8],
@@ -265,8 +254,7 @@ pub extern "C" fn xangoravit_move_up(
 }
 
 // A sheet of version 2 without its family, at the front of `out`; the family is the second word. A refusal leaves all but the place.
-#[unsafe(no_mangle)]
-pub extern "C" fn xangoravit_move_down(
+pub fn xangoravit_move_down(
     bytes: &[u8],
     out: &mut [u8],
     moved: &mut [u64],
