@@ -6,7 +6,7 @@ use Rattle.design_products.proofs.transposed_both.Goals as goal
 pub columns_both-requires : goal.columns_both-requires
 columns_both-requires c =
     let out = c.requires.p_bound in
-    let rest = c.requires.y_le_w in record { reads = downward _ _ _ _ c.requires.held _ _ out c.requires.y_le_v c.requires.k_bound; reads_2 = downward _ _ _ _ c.requires.held _ _ out rest.0 rest.1.0; p_in_bounds = rest.1.1 }
+    record { reads = downward _ _ _ _ c.requires.held _ _ out c.requires.y_le_v c.requires.k_bound; reads_2 = downward _ _ _ _ c.requires.held _ _ out c.requires.y_le_w c.requires.k_bound_2; p_in_bounds = c.requires.p_in_bounds }
 
 pub returns-then-sh : goal.returns-then-sh
 returns-then-sh c =
@@ -17,7 +17,7 @@ pub columns_both-requires-2 : goal.columns_both-requires-2
 columns_both-requires-2 c =
     let lazy = c.if-sh.false in
     let out = c.requires.p_bound in
-    let rest = c.requires.y_le_w in record { together = stored-downward _ _ _ _ c.requires.held _ _ lazy out c.requires.y_le_v c.requires.k_bound; together_2 = stored-downward _ _ _ _ c.requires.held _ _ lazy out rest.0 rest.1.0; cols_in_bounds = rest.1.1 }
+    record { together = stored-downward _ _ _ _ c.requires.held _ _ lazy out c.requires.y_le_v c.requires.k_bound; together_2 = stored-downward _ _ _ _ c.requires.held _ _ lazy out c.requires.y_le_w c.requires.k_bound_2; cols_in_bounds = c.requires.p_in_bounds }
 
 pub returns : goal.returns
 returns c =

@@ -1,4 +1,5 @@
 -- `sheet_write::pair_rises` meets its contract. Assumes nothing.
+use lib.ListN.{get_or}
 use mathlib.Core.Path.{sym, ◌∙◌}
 use Prim.Native.Nat.{◌-◌}
 use native.Mathlib.Omega.{arith}
@@ -27,4 +28,4 @@ pub overflow_cast-targets-2 : goal.overflow_cast-targets-2
 overflow_cast-targets-2 c = omega (arith, c.shared_slice_known-6-1.given c.args.i)
 
 pub returns : goal.returns
-returns c = c.pair_above.ensures ∙ sym (rises-above _ _ _ c.if-i-eq0.false)
+returns c = c.pair_above.ensures ∙ sym (rises-above (λ k. get_or c.args.sources.now k 0) (λ k. get_or c.args.targets.now k 0) _ c.if-i-eq0.false)
