@@ -4,9 +4,7 @@ use Rattle.duality.proofs.Stores.{did-gap}
 use Rattle.duality.proofs.gap.Goals as goal
 
 pub residuals-gradphi-requires : goal.residuals-gradphi-requires
-residuals-gradphi-requires c =
-    let both = c.requires in
-    record { held = both.0; known = both.1 }
+residuals-gradphi-requires c = record { held = c.requires.held; known = c.requires.known }
 
 pub returns : goal.returns
 returns c =

@@ -5,9 +5,7 @@ use Rattle.duality.proofs.Stores.{residuals-left, gradphi-made}
 use Rattle.duality.proofs.residuals.Goals as goal
 
 pub start_residuals-requires : goal.start_residuals-requires
-start_residuals-requires c =
-    let both = c.requires in
-    record { held = both.0; known = both.1 }
+start_residuals-requires c = record { held = c.requires.held; known = c.requires.known }
 
 pub transposed_both-requires : goal.transposed_both-requires
 transposed_both-requires c = record { held = held_on c.requires.held (omega arith); p_bound = omega arith; y_le_v = omega arith; k_bound = omega arith; y_le_w = omega arith; k_bound_2 = omega arith; p_in_bounds = omega arith }

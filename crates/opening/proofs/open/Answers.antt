@@ -9,9 +9,7 @@ use Rattle.opening.proofs.Returns.{open_done, open-fails, open-ready}
 use Rattle.opening.proofs.open.Goals as goal
 
 pub gap-g-requires : goal.gap-g-requires
-gap-g-requires c =
-    let both = c.requires in
-    record { held = both.0; known = both.1 }
+gap-g-requires c = record { held = c.requires.held; known = c.requires.known }
 
 pub shape_of-s-then-g-tol : goal.shape_of-s-then-g-tol
 shape_of-s-then-g-tol c =
@@ -38,13 +36,13 @@ newton_terms-requires c =
 pub pcgtol-pcg-requires : goal.pcgtol-pcg-requires
 pcgtol-pcg-requires c =
     let len-gap : length c.gap-g.new.s ≡ length c.args.s.now = c.gap-g.auto.s in
-    let len-newton : length c.newton_terms.new.s ≡ length (c).args.s.now = c.newton_terms.auto.s ∙ len-gap in
-    (held_on (c).requires.0 len-newton).room
+    let len-newton : length c.newton_terms.new.s ≡ length c.args.s.now = c.newton_terms.auto.s ∙ len-gap in
+    (held_on c.requires.held len-newton).room
 
 pub shape_of-s-then-pcg : goal.shape_of-s-then-pcg
 shape_of-s-then-pcg c =
     let len-gap : length c.gap-g.new.s ≡ length c.args.s.now = c.gap-g.auto.s in
-    let len-newton : length c.newton_terms.new.s ≡ length (c).args.s.now = c.newton_terms.auto.s ∙ len-gap in
+    let len-newton : length c.newton_terms.new.s ≡ length c.args.s.now = c.newton_terms.auto.s ∙ len-gap in
     len-newton
 
 pub returns-then-pcg : goal.returns-then-pcg
@@ -57,13 +55,13 @@ returns-then-pcg c =
 pub begin-bnrm-requires : goal.begin-bnrm-requires
 begin-bnrm-requires c =
     let len-gap : length c.gap-g.new.s ≡ length c.args.s.now = c.gap-g.auto.s in
-    let len-newton : length c.newton_terms.new.s ≡ length (c).args.s.now = c.newton_terms.auto.s ∙ len-gap in
-    (held_on (c).requires.0 len-newton).room
+    let len-newton : length c.newton_terms.new.s ≡ length c.args.s.now = c.newton_terms.auto.s ∙ len-gap in
+    (held_on c.requires.held len-newton).room
 
 pub shape_of-s : goal.shape_of-s
 shape_of-s c =
     let len-gap : length c.gap-g.new.s ≡ length c.args.s.now = c.gap-g.auto.s in
-    let len-newton : length c.newton_terms.new.s ≡ length (c).args.s.now = c.newton_terms.auto.s ∙ len-gap in
+    let len-newton : length c.newton_terms.new.s ≡ length c.args.s.now = c.newton_terms.auto.s ∙ len-gap in
     c.begin-bnrm.auto.s ∙ len-newton
 
 pub returns : goal.returns

@@ -28,13 +28,13 @@ enum_told-in-Pending-a c = c.in-Pending-a.keys1
 pub shape_of-s-in_default-a : goal.shape_of-s-in_default-a
 shape_of-s-in_default-a c =
     let scratch₁ : length c.resume-r.new.s ≡ length c.args.s.now = c.resume-r.auto.s in
-    let scratch₂ : length c.resume-r-2.new.s ≡ length (c).args.s.now = c.resume-r-2.auto.s ∙ scratch₁ in
+    let scratch₂ : length c.resume-r-2.new.s ≡ length c.args.s.now = c.resume-r-2.auto.s ∙ scratch₁ in
     scratch₂
 
 pub shape_of-w-in_default-a : goal.shape_of-w-in_default-a
 shape_of-w-in_default-a c =
     let weights₁ : length c.resume-r.new.w ≡ length c.args.w.now = c.resume-r.auto.w in
-    let weights₂ : length c.resume-r-2.new.w ≡ length (c).args.w.now = c.resume-r-2.auto.w ∙ weights₁ in
+    let weights₂ : length c.resume-r-2.new.w ≡ length c.args.w.now = c.resume-r-2.auto.w ∙ weights₁ in
     weights₂
 
 pub returns-in_default-a : goal.returns-in_default-a
@@ -47,19 +47,19 @@ returns-in_default-a c =
 pub shape_of-s : goal.shape_of-s
 shape_of-s c =
     let scratch₁ : length c.resume-r.new.s ≡ length c.args.s.now = c.resume-r.auto.s in
-    let scratch₂ : length c.resume-r-2.new.s ≡ length (c).args.s.now = c.resume-r-2.auto.s ∙ scratch₁ in
+    let scratch₂ : length c.resume-r-2.new.s ≡ length c.args.s.now = c.resume-r-2.auto.s ∙ scratch₁ in
     c.resume.auto.s ∙ scratch₂
 
 pub shape_of-w : goal.shape_of-w
 shape_of-w c =
     let weights₁ : length c.resume-r.new.w ≡ length c.args.w.now = c.resume-r.auto.w in
-    let weights₂ : length c.resume-r-2.new.w ≡ length (c).args.w.now = c.resume-r-2.auto.w ∙ weights₁ in
+    let weights₂ : length c.resume-r-2.new.w ≡ length c.args.w.now = c.resume-r-2.auto.w ∙ weights₁ in
     c.resume.auto.w ∙ weights₂
 
 pub returns : goal.returns
 returns c =
     let weights₁ : length c.resume-r.new.w ≡ length c.args.w.now = c.resume-r.auto.w in
-    let weights₂ : length c.resume-r-2.new.w ≡ length (c).args.w.now = c.resume-r-2.auto.w ∙ weights₁ in
+    let weights₂ : length c.resume-r-2.new.w ≡ length c.args.w.now = c.resume-r-2.auto.w ∙ weights₁ in
     let l = c.requires in
     more _ l c.resume-r.result _ _ c.resume-r.ensures (ap said c.in-Pending.is)
     (more _ (weights₁ ∙ l) c.resume-r-2.result _ _ c.resume-r-2.ensures (ap said c.in-Pending-a.is)
