@@ -25,10 +25,10 @@ returns-in_default c =
     c.in_default.is c.if-j-lt100.false
 
 pub overflow_add-r : goal.overflow_add-r
-overflow_add-r c = let p = c.requires.searching_in in omega (arith, p.0.inside, p.1)
+overflow_add-r c = omega (arith, c.requires.searching_in.inside, c.requires.limit_bound)
 
 pub overflow_add-result-then-r-limit : goal.overflow_add-result-then-r-limit
-overflow_add-result-then-r-limit c = let p = c.requires.searching_in in omega (arith, p.0.inside, p.1)
+overflow_add-result-then-r-limit c = omega (arith, c.requires.searching_in.inside, c.requires.limit_bound)
 
 pub returns-then-r-limit : goal.returns-then-r-limit
 unfolding trial+
