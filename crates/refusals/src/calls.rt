@@ -4,6 +4,7 @@ ghost use Rattle.std.specs.Prelude.{◌≡◌, ◌≤◌, length};
 use super::table::{refused, solved, written, wrote};
 use c_api::{xangoravit_predict, xangoravit_resume, xangoravit_solve, xangoravit_start};
 use numbers::bits::of_bits;
+use std::io;
 use stored::bits::equal;
 use stored::memory::{MARK, Spoilt, cleared, fill, kept, number_at};
 
@@ -89,7 +90,7 @@ fn ahead(w: &[u64]) -> usize
     if w[0] == PREDICT { 1 } else { 0 }
 }
 
-pub fn called(w: &[u64])
+pub fn called(rt: &impl Print, w: &[u64]) -> io::Result<()>
     requires { length w.now ≡ 36 }
 {
     let q = spoilt(w);
@@ -101,21 +102,28 @@ pub fn called(w: &[u64])
     let mut vs = weights(q, std::num::wrapping_add_usize(b, ahead(w)));
     let mut ss = scratch(q);
     let xs = &xs[0..b];
-    tried(w, &xs[0..a], &xs[a..], &mut vs[0..c], &mut ss[0..k]);
+    tried(rt, w, &xs[0..a], &xs[a..], &mut vs[0..c], &mut ss[0..k])
 }
 
-fn tried(w: &[u64], x: &[f64], y: &[f64], v: &mut [f64], s: &mut [f64])
+fn tried(
+    rt: &impl Print,
+    w: &[u64],
+    x: &[f64],
+    y: &[f64],
+    v: &mut [f64],
+    s: &mut [f64],
+) -> io::Result<()>
     requires { length w.now ≡ 36 }
 {
     match w[0] {
-        START => started(w, x, y, s),
-        RESUME => resumed(w, x, y, v, s),
-        PREDICT => predicted(w, x, y, v),
-        _ => ended(w, x, y, v, s),
+        START => started(rt, w, x, y, s),
+        RESUME => resumed(rt, w, x, y, v, s),
+        PREDICT => predicted(rt, w, x, y, v),
+        _ => ended(rt, w, x, y, v, s),
     }
 }
 
-fn started(w: &[u64], x: &[f64], y: &[f64], s: &mut [f64])
+fn started(rt: &impl Print, w: &[u64], x: &[f64], y: &[f64], s: &mut [f64]) -> io::Result<()>
     requires { length w.now ≡ 36 }
 {
     let mut rec = [MARK; 16];
@@ -132,14 +140,20 @@ fn started(w: &[u64], x: &[f64], y: &[f64], s: &mut [f64])
     );
     let n = stored::memory::written(s, SCRATCH_AT, spoilt(w));
     if r == 0 && answer[0] == 0 {
-        wrote(b"ready", n);
-        return;
+        return wrote(rt, "ready", n);
     }
     let marks = [MARK; 16];
-    refused(r, &answer, n == 0 && equal(&rec, &marks));
+    refused(rt, r, &answer, n == 0 && equal(&rec, &marks))
 }
 
-fn resumed(w: &[u64], x: &[f64], y: &[f64], weights: &mut [f64], s: &mut [f64])
+fn resumed(
+    rt: &impl Print,
+    w: &[u64],
+    x: &[f64],
+    y: &[f64],
+    weights: &mut [f64],
+    s: &mut [f64],
+) -> io::Result<()>
     requires { length w.now ≡ 36 }
 {
     let mut rec = record(w);
@@ -159,7 +173,7 @@ fn resumed(w: &[u64], x: &[f64], y: &[f64], weights: &mut [f64], s: &mut [f64])
     let q = spoilt(w);
     let n = stored::memory::written(s, SCRATCH_AT, q);
     let nothing = n == 0 && kept(weights, behind(x, y), q) && equal(&rec, &w[19..35]);
-    told(r, &answer, n, nothing);
+    told(rt, r, &answer, n, nothing)
 }
 
 fn record(w: &[u64]) -> [u64; 16]
@@ -172,26 +186,31 @@ fn record(w: &[u64]) -> [u64; 16]
     ]
 }
 
-fn told(r: u64, answer: &[u64], n: usize, nothing: bool)
+fn told(rt: &impl Print, r: u64, answer: &[u64], n: usize, nothing: bool) -> io::Result<()>
     requires { length answer.now ≡ 7 }
 {
     if r != 0 {
-        refused(r, answer, nothing);
-        return;
+        return refused(rt, r, answer, nothing);
     }
     match answer[0] {
         0 => {
-            io::write_all(1, b"pending");
-            written(nothing);
+            print!(rt; "pending")?;
+            written(rt, nothing)
         }
-        1 => wrote(b"ended converged", n),
-        2 => wrote(b"ended limit", n),
-        _ => refused(r, answer, nothing),
+        1 => wrote(rt, "ended converged", n),
+        2 => wrote(rt, "ended limit", n),
+        _ => refused(rt, r, answer, nothing),
     }
 }
 
 // The values are matrix, weights and intercept.
-fn predicted(w: &[u64], x: &[f64], weights: &[f64], out: &mut [f64])
+fn predicted(
+    rt: &impl Print,
+    w: &[u64],
+    x: &[f64],
+    weights: &[f64],
+    out: &mut [f64],
+) -> io::Result<()>
     requires { length w.now ≡ 36 }
 {
     let q = spoilt(w);
@@ -209,10 +228,9 @@ fn predicted(w: &[u64], x: &[f64], weights: &[f64], out: &mut [f64])
     );
     let n = stored::memory::written(out, std::num::wrapping_add_usize(at, 1), q);
     if r == 0 && answer[0] == 1 {
-        wrote(b"predicted", n);
-        return;
+        return wrote(rt, "predicted", n);
     }
-    refused(r, &answer, n == 0);
+    refused(rt, r, &answer, n == 0)
 }
 
 // The place behind those of two slices.
@@ -221,7 +239,14 @@ fn behind(x: &[f64], y: &[f64]) -> usize {
 }
 
 // The values are matrix, right side and start.
-fn ended(w: &[u64], m: &[f64], right: &[f64], x: &mut [f64], s: &mut [f64])
+fn ended(
+    rt: &impl Print,
+    w: &[u64],
+    m: &[f64],
+    right: &[f64],
+    x: &mut [f64],
+    s: &mut [f64],
+) -> io::Result<()>
     requires { length w.now ≡ 36 }
 {
     let q = spoilt(w);
@@ -237,12 +262,12 @@ fn ended(w: &[u64], m: &[f64], right: &[f64], x: &mut [f64], s: &mut [f64])
         &mut answer,
     );
     if r == 0 && answer[0] == 1 {
-        solved(cleared(s, 8 * x.len(), SCRATCH_AT, q));
-        return;
+        return solved(rt, cleared(s, 8 * x.len(), SCRATCH_AT, q));
     }
     refused(
+        rt,
         r,
         &answer,
         kept(x, behind(m, right), q) && kept(s, SCRATCH_AT, q),
-    );
+    )
 }

@@ -8,51 +8,57 @@
 mod calls;
 mod table;
 
-ghost use Rattle.std.specs.Prelude.{◌<◌, ◌≤◌};
+ghost use Rattle.std.specs.Prelude.{◌<◌, ◌≤◌, IfOk};
 
+use std::io;
+use std::io::Read;
 use stored::next_record;
 use stored::room::word_room;
 use stored::tally::{Tally, Verdict, begun, damaged, tallied};
 
-fn main() {
-    table::head();
-    let mut t = begun();
+// An error where a read or a write fails.
+fn main(rt: HostRuntime) -> io::Result<()> {
+    let mut input = rt.stdin();
+    table::head(&rt)?;
+    let mut t = begun(&rt, &mut input)?;
     while t.left > 0 {
-        t = next(t);
+        t = next(&rt, &mut input, t)?;
     }
+    Ok(())
 }
 
-fn next(t: Tally) -> Tally
+fn next<R: Read>(rt: &impl Print, input: &mut R, t: Tally) -> io::Result<Tally>
     requires { 1 ≤ t.left }
-    ensures { result.left < t.left }
+    ensures { IfOk result (λ r. r.left < t.left) }
 {
     let mut w = word_room();
-    let r = next_record(&mut w);
+    let r = next_record(input, &mut w)?;
     let n = r.words;
     if !r.whole {
-        return damaged(t, r.bad);
+        return damaged(rt, t, r.bad);
     }
-    tallied(t, row(&w[0..n]))
+    let v = row(rt, &w[0..n])?;
+    tallied(rt, t, v)
 }
 
 // More than the buffers hold counts as damage.
-fn row(w: &[u64]) -> Verdict {
+fn row(rt: &impl Print, w: &[u64]) -> io::Result<Verdict> {
     if w.len() != 36 {
-        return Verdict::DamagedAt(0);
+        return Ok(Verdict::DamagedAt(0));
     }
     if w[11] > calls::LENT as u64 {
-        return Verdict::DamagedAt(12);
+        return Ok(Verdict::DamagedAt(12));
     }
     if w[12] > calls::LENT as u64 {
-        return Verdict::DamagedAt(13);
+        return Ok(Verdict::DamagedAt(13));
     }
     if w[13] > calls::LENT as u64 {
-        return Verdict::DamagedAt(14);
+        return Ok(Verdict::DamagedAt(14));
     }
     if w[14] > calls::SCRATCH as u64 {
-        return Verdict::DamagedAt(15);
+        return Ok(Verdict::DamagedAt(15));
     }
-    table::given(w);
-    calls::called(w);
-    Verdict::Shown
+    table::given(rt, w)?;
+    calls::called(rt, w)?;
+    Ok(Verdict::Shown)
 }

@@ -3,8 +3,10 @@
 // (crates `replay_parts`, `replay_fits`, `replay_moves` and `replay_sheets`): words, and the bits of numbers.
 #![tactic(auto)]
 
-ghost use Rattle.std.specs.Prelude.{◌≤◌, ◌<◌, length};
+ghost use Rattle.std.specs.Prelude.{◌≤◌, ◌<◌, length, IfOk};
 
+use std::io;
+use std::io::Read;
 use stored::bits::load;
 use stored::next_record;
 use stored::room::{number_room, word_room};
@@ -31,40 +33,42 @@ const MOVE: u64 = 9;
 
 const WRITING: u64 = 10;
 
-fn main() {
-    section(ROOT);
-    section(LOGARITHM);
-    section(SOLVER);
-    section(DESIGN);
-    section(FIT);
-    section(PREDICTION);
-    section(BOTH);
-    section(SHEET);
-    section(MOVE);
-    section(WRITING);
+// An error where a read or a write fails.
+fn main(rt: HostRuntime) -> io::Result<()> {
+    let mut input = rt.stdin();
+    section(&rt, &mut input, ROOT)?;
+    section(&rt, &mut input, LOGARITHM)?;
+    section(&rt, &mut input, SOLVER)?;
+    section(&rt, &mut input, DESIGN)?;
+    section(&rt, &mut input, FIT)?;
+    section(&rt, &mut input, PREDICTION)?;
+    section(&rt, &mut input, BOTH)?;
+    section(&rt, &mut input, SHEET)?;
+    section(&rt, &mut input, MOVE)?;
+    section(&rt, &mut input, WRITING)
 }
 
-fn section(kind: u64) {
-    let mut t = begun();
+fn section<R: Read>(rt: &impl Print, input: &mut R, kind: u64) -> io::Result<()> {
+    let mut t = begun(rt, input)?;
     while t.left > 0 {
-        t = next(t, kind);
+        t = next(rt, input, t, kind)?;
     }
-    end(t, kind);
+    end(rt, t, kind)
 }
 
-fn next(t: Tally, kind: u64) -> Tally
+fn next<R: Read>(rt: &impl Print, input: &mut R, t: Tally, kind: u64) -> io::Result<Tally>
     requires { 1 ≤ t.left }
-    ensures { result.left < t.left }
+    ensures { IfOk result (λ r. r.left < t.left) }
 {
     let mut w = word_room();
-    let r = next_record(&mut w);
+    let r = next_record(input, &mut w)?;
     let n = r.words;
     if !r.whole {
-        return damaged(t, r.bad);
+        return damaged(rt, t, r.bad);
     }
     let v = verdict(&w[0..n], kind);
-    differs(t, v);
-    tallied(t, v)
+    differs(rt, t, v)?;
+    tallied(rt, t, v)
 }
 
 fn verdict(w: &[u64], kind: u64) -> Verdict
@@ -119,62 +123,62 @@ fn tried(kind: u64, w: &[u64], x: &[f64], y: &[f64]) -> Verdict {
     }
 }
 
-fn end(t: Tally, kind: u64) {
+fn end(rt: &impl Print, t: Tally, kind: u64) -> io::Result<()> {
     if !t.whole {
-        return;
+        return Ok(());
     }
     match kind {
-        FIT => fits(t),
+        FIT => fits(rt, t)?,
         SOLVER => {
-            of(b"solver ", t.first, t.records);
-            of(b" agree, scratch kept and cleared in ", t.second, t.records);
+            of(rt, "solver ", t.first, t.records)?;
+            of(
+                rt,
+                " agree, scratch kept and cleared in ",
+                t.second,
+                t.records,
+            )?;
         }
-        PREDICTION => agree(b"predictions ", t),
-        DESIGN => designs(t),
+        PREDICTION => agree(rt, "predictions ", t)?,
+        DESIGN => designs(rt, t)?,
         BOTH => {
-            of(b"sheets in version 1 ", t.first, t.records);
-            of(b" agree, in version 2 ", t.second, t.records);
+            of(rt, "sheets in version 1 ", t.first, t.records)?;
+            of(rt, " agree, in version 2 ", t.second, t.records)?;
         }
-        SHEET => agree(b"sheets alone ", t),
-        MOVE => agree(b"moves ", t),
-        WRITING => agree(b"writings ", t),
-        ROOT => agree(b"roots ", t),
-        _ => agree(b"logarithms ", t),
+        SHEET => agree(rt, "sheets alone ", t)?,
+        MOVE => agree(rt, "moves ", t)?,
+        WRITING => agree(rt, "writings ", t)?,
+        ROOT => agree(rt, "roots ", t)?,
+        _ => agree(rt, "logarithms ", t)?,
     }
-    io::write_all(1, b"\n");
+    println!(rt; "")
 }
 
-fn agree(text: &[u8], t: Tally) {
-    of(text, t.agree, t.records);
-    io::write_all(1, b" agree");
+fn agree(rt: &impl Print, text: &str, t: Tally) -> io::Result<()> {
+    of(rt, text, t.agree, t.records)?;
+    print!(rt; " agree")
 }
 
-fn fits(t: Tally) {
-    of(b"fits in one call ", t.first, t.records);
-    of(b" agree\nin budgets of 1 ", t.second, t.records);
+fn fits(rt: &impl Print, t: Tally) -> io::Result<()> {
+    of(rt, "fits in one call ", t.first, t.records)?;
+    of(rt, " agree\nin budgets of 1 ", t.second, t.records)?;
     of(
-        b" agree\nin random budgets from 0 to 16 ",
+        rt,
+        " agree\nin random budgets from 0 to 16 ",
         t.third,
         t.records,
-    );
-    io::write_all(1, b" agree");
+    )?;
+    print!(rt; " agree")
 }
 
-fn designs(t: Tally) {
-    of(b"statistics ", t.first, t.records);
-    of(b", targets ", t.second, t.records);
-    of(b", Grams ", t.third, t.records);
-    of(b", products ", t.fourth, t.records);
-    of(b"\ndesigns ", t.agree, t.records);
-    io::write_all(
-        1,
-        b" agree: statistics, targets, Grams, products; panels 1 by 1, 7 by 3 and 256 by 32",
-    );
+fn designs(rt: &impl Print, t: Tally) -> io::Result<()> {
+    of(rt, "statistics ", t.first, t.records)?;
+    of(rt, ", targets ", t.second, t.records)?;
+    of(rt, ", Grams ", t.third, t.records)?;
+    of(rt, ", products ", t.fourth, t.records)?;
+    of(rt, "\ndesigns ", t.agree, t.records)?;
+    print!(rt; " agree: statistics, targets, Grams, products; panels 1 by 1, 7 by 3 and 256 by 32")
 }
 
-fn of(text: &[u8], some: u64, all: u64) {
-    io::write_all(1, text);
-    io::print_decimal(1, some);
-    io::write_all(1, b" of ");
-    io::print_decimal(1, all);
+fn of(rt: &impl Print, text: &str, some: u64, all: u64) -> io::Result<()> {
+    print!(rt; "{text}{some} of {all}")
 }

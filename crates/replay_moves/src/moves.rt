@@ -83,7 +83,7 @@ fn tried(
     requires n_bound_2 { n ≤ 8 * length sheet.now }
     requires m_bound { m ≤ 8 * length due.now }
 {
-    let mut large = io::large_buffer();
+    let mut large = [0u8; 65536];
     let mut space = room();
     let bytes = &mut large[0..n];
     let out = &mut space[0..size];

@@ -71,7 +71,7 @@ fn fitted(front: &[u64], f: usize, rest: &[u64], n: usize, wanted: &[u64], m: us
     requires n_bound_2 { n ≤ 8 * length rest.now }
     requires m_bound { m ≤ 8 * length wanted.now }
 {
-    let mut bytes = io::large_buffer();
+    let mut bytes = [0u8; 65536];
     joined(front, f, rest, &mut bytes[0..f + n], wanted, m)
 }
 

@@ -1,4 +1,4 @@
-// Records from standard input: words, of which the first is the number of records, and a record is its length in words and the words. These
+// Records from an input: words, of which the first is the number of records, and a record is its length in words and the words. These
 // go to a buffer that the caller lends.
 #![tactic(auto)]
 
@@ -9,8 +9,11 @@ pub mod room;
 pub mod tally;
 mod words;
 
-ghost use Rattle.std.specs.Prelude.{◌≡◌, ◌≤◌, min, length};
+ghost use Rattle.std.specs.Prelude.{◌≡◌, ◌≤◌, min, length, IfOk};
 
+use console::read_full;
+use std::io;
+use std::io::Read;
 use words::{Parsed, Word, read_word, read_words};
 
 #[derive(Clone, Copy)]
@@ -22,29 +25,30 @@ pub struct Record {
     pub bad: u64,
 }
 
-fn next_word() -> Word {
+fn next_word<R: Read>(input: &mut R) -> io::Result<Word> {
     let mut bytes = [0u8; 17];
-    let n = io::read_full(0, &mut bytes);
-    read_word(&bytes[..n], 0)
+    let n = read_full(input, &mut bytes)?;
+    Ok(read_word(&bytes[..n], 0))
 }
 
-pub fn next_record(out: &mut [u64]) -> Record
-    ensures { result.words ≤ length out.new }
+// An error where a read fails.
+pub fn next_record<R: Read>(input: &mut R, out: &mut [u64]) -> io::Result<Record>
+    ensures { IfOk result (λ r. r.words ≤ length out.new) }
 {
-    let Word::Number(n) = next_word() else {
-        return damaged(0);
+    let Word::Number(n) = next_word(input)? else {
+        return Ok(damaged(0));
     };
     let n = n as usize;
     if n > out.len() {
-        return damaged(0);
+        return Ok(damaged(0));
     }
-    match fill(out, n) {
-        Parsed::Whole => Record {
+    match fill(input, out, n)? {
+        Parsed::Whole => Ok(Record {
             words: n,
             whole: true,
             bad: 0,
-        },
-        Parsed::BadAt(i) => damaged(std::num::wrapping_add_u64(i as u64, 1)),
+        }),
+        Parsed::BadAt(i) => Ok(damaged(std::num::wrapping_add_u64(i as u64, 1))),
     }
 }
 
@@ -59,18 +63,18 @@ fn damaged(bad: u64) -> Record
 }
 
 // The next n words, as many at a time as `some` has room for. A place is below n, so that no sum here and above wraps.
-fn fill(out: &mut [u64], n: usize) -> Parsed
+fn fill<R: Read>(input: &mut R, out: &mut [u64], n: usize) -> io::Result<Parsed>
     requires { n ≤ length out.old }
 {
     let mut i = 0usize;
     while i < n {
         let k = at_most(n - i, 240);
-        if let Parsed::BadAt(j) = some(&mut out[i..], k) {
-            return Parsed::BadAt(std::num::wrapping_add_usize(i, j));
+        if let Parsed::BadAt(j) = some(input, &mut out[i..], k)? {
+            return Ok(Parsed::BadAt(std::num::wrapping_add_usize(i, j)));
         }
         i += k;
     }
-    Parsed::Whole
+    Ok(Parsed::Whole)
 }
 
 fn at_most(a: usize, b: usize) -> usize
@@ -79,11 +83,11 @@ fn at_most(a: usize, b: usize) -> usize
     if a < b { a } else { b }
 }
 
-fn some(out: &mut [u64], k: usize) -> Parsed
+fn some<R: Read>(input: &mut R, out: &mut [u64], k: usize) -> io::Result<Parsed>
     requires k_in_bounds { k ≤ length out.old }
     requires k_bound { k ≤ 240 }
 {
-    let mut bytes = io::buffer();
-    let n = io::read_full(0, &mut bytes[..17 * k]);
-    read_words(&bytes[..n], out, k)
+    let mut bytes = [0u8; 4096];
+    let n = read_full(input, &mut bytes[..17 * k])?;
+    Ok(read_words(&bytes[..n], out, k))
 }

@@ -1,8 +1,10 @@
-// What the programs that go through the records of standard input count and print alike.
-ghost use Rattle.std.specs.Prelude.{◌≡◌, ◌<◌, ◌≤◌};
+// What the programs that go through the records of their input count and print alike. Each function that reads or prints gives an error where that fails.
+ghost use Rattle.std.specs.Prelude.{◌≡◌, ◌<◌, ◌≤◌, IfOk};
 
 use super::next_word;
 use super::words::Word;
+use std::io;
+use std::io::Read;
 
 // What is said of a record.
 #[derive(Clone, Copy)]
@@ -33,12 +35,12 @@ pub struct Tally {
 }
 
 // The number of records is read.
-pub fn begun() -> Tally {
-    match next_word() {
-        Word::Number(records) => fresh(records, true),
+pub fn begun<R: Read>(rt: &impl Print, input: &mut R) -> io::Result<Tally> {
+    match next_word(input)? {
+        Word::Number(records) => Ok(fresh(records, true)),
         Word::Bad => {
-            io::write_all(1, b"damaged at the number of records\n");
-            fresh(0, false)
+            println!(rt; "damaged at the number of records")?;
+            Ok(fresh(0, false))
         }
     }
 }
@@ -60,41 +62,41 @@ fn fresh(records: u64, whole: bool) -> Tally
 }
 
 // Of the first ten that differ: the record, and which of the four things do, counted from 1.
-pub fn differs(t: Tally, v: Verdict) {
+pub fn differs(rt: &impl Print, t: Tally, v: Verdict) -> io::Result<()> {
     let Verdict::Compared(a, b, c, d) = v else {
-        return;
+        return Ok(());
     };
     if a && b && c && d || t.differ >= 10 {
-        return;
+        return Ok(());
     }
-    io::write_all(1, b"record ");
-    io::print_decimal(1, present(t));
-    io::write_all(1, b" differs in");
-    named(a, b" 1");
-    named(b, b" 2");
-    named(c, b" 3");
-    named(d, b" 4");
-    io::write_all(1, b"\n");
+    let n = present(t);
+    print!(rt; "record {n} differs in")?;
+    named(rt, a, " 1")?;
+    named(rt, b, " 2")?;
+    named(rt, c, " 3")?;
+    named(rt, d, " 4")?;
+    println!(rt; "")
 }
 
-fn named(same: bool, name: &[u8]) {
-    if !same {
-        io::write_all(1, name);
+fn named(rt: &impl Print, same: bool, name: &str) -> io::Result<()> {
+    if same {
+        return Ok(());
     }
+    print!(rt; "{name}")
 }
 
 fn present(t: Tally) -> u64 {
     std::num::wrapping_sub_u64(t.records, t.left)
 }
 
-pub fn tallied(t: Tally, v: Verdict) -> Tally
+pub fn tallied(rt: &impl Print, t: Tally, v: Verdict) -> io::Result<Tally>
     requires { 1 ≤ t.left }
-    ensures { result.left < t.left }
+    ensures { IfOk result (λ r. r.left < t.left) }
 {
     match v {
-        Verdict::Compared(a, b, c, d) => compared(t, a, b, c, d),
-        Verdict::Shown => compared(t, true, true, true, true),
-        Verdict::DamagedAt(word) => damaged(t, word),
+        Verdict::Compared(a, b, c, d) => Ok(compared(t, a, b, c, d)),
+        Verdict::Shown => Ok(compared(t, true, true, true, true)),
+        Verdict::DamagedAt(word) => damaged(rt, t, word),
     }
 }
 
@@ -124,14 +126,11 @@ pub fn more(n: u64, yes: bool) -> u64 {
     }
 }
 
-pub fn damaged(t: Tally, word: u64) -> Tally
+pub fn damaged(rt: &impl Print, t: Tally, word: u64) -> io::Result<Tally>
     requires { 1 ≤ t.left }
-    ensures { result.left < t.left }
+    ensures { IfOk result (λ r. r.left < t.left) }
 {
-    io::write_all(1, b"damaged at record ");
-    io::print_decimal(1, present(t));
-    io::write_all(1, b" word ");
-    io::print_decimal(1, word);
-    io::write_all(1, b"\n");
-    fresh(0, false)
+    let n = present(t);
+    println!(rt; "damaged at record {n} word {word}")?;
+    Ok(fresh(0, false))
 }

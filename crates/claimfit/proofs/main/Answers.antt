@@ -1,7 +1,5 @@
--- `claimfit::main` meets its contract: what is printed lies within the text. Assumes nothing.
-use mathlib.Core.Path.{sym}
-use borrow.Author.Rules.{rules}
-use lib.Seq.{length-take-le}
+-- `claimfit::main` is safe: what is printed lies within the text. Assumes nothing.
+use Rattle.std.proofs.Common.{sym, length-take-le}
 use Rattle.sheet_fit.proofs.Within.{within}
 use Rattle.claimfit.proofs.main.Goals as goal
 

@@ -1,9 +1,5 @@
 -- `replay::section` is safe and ends: the records that are left are the measure. Assumes nothing.
-use native.Mathlib.Omega.{arith}
 use Rattle.replay.proofs.section.Given as goal
 
-abbrev pub invariant-loop-t : goal.invariant-loop-t
-invariant-loop-t l = Unit {0}
-
 abbrev pub decreases-loop-t : goal.decreases-loop-t
-decreases-loop-t l = l.t.left
+decreases-loop-t g l = l.t.left

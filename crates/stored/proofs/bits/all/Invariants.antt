@@ -1,5 +1,5 @@
 -- `stored::bits::all` is safe and ends: the numbers that are left are the measure. Assumes nothing.
-use Rattle.std.proofs.Common.{◌-◌, arith}
+use Rattle.std.proofs.Common.{◌-◌}
 use Rattle.stored.proofs.bits.all.Given as goal
 
 abbrev pub invariant-loop-i : goal.invariant-loop-i

@@ -1,5 +1,5 @@
 -- `stored::bits::equal` is safe and ends: the words that are left are the measure. Assumes nothing.
-use Rattle.std.proofs.Common.{◌-◌, arith}
+use Rattle.std.proofs.Common.{◌-◌}
 use Rattle.stored.proofs.bits.equal.Given as goal
 
 abbrev pub invariant-loop-i : goal.invariant-loop-i

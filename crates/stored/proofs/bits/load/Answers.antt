@@ -1,13 +1,9 @@
-use Rattle.std.proofs.Common.{◌≡◌, ℕ, ◌+◌, ◌-◌, ◌<◌, ◌≤◌, List, length, get_or, take, set, sym, refl, ◌∙◌, add-one, arith, length-set, take_all, take-suc, take-suc-set}
+use Rattle.std.proofs.Common.{◌≡◌, ℕ, ◌+◌, ◌<◌, ◌≤◌, List, length, get_or, set, sym, refl, ◌∙◌, add-one, arith, length-set, take_all, take-suc, take-suc-set}
 use mathlib.Core.List.{map-append}
 use lib.Ieee.{Float, binary64, of_bits}
 use Rattle.stored.specs.Stored.{numbers_of}
+use Rattle.stored.proofs.bits.load.Invariants.{Loading}
 use Rattle.stored.proofs.bits.load.Goals as goal
-
-record Loading (w : List ℕ) (out : List Float) (i : ℕ) : Type 0 where
-  upto : i ≤ length w
-  long : length out ≡ length w
-  is : take i out ≡ numbers_of (take i w)
 
 module _ {w : List ℕ} {out : List Float} {i : ℕ} (d : Loading w out i) where
   turn : (x : Float) → i < length w → x ≡ of_bits binary64 (get_or w i 0) → Loading w (set out i x) (i + 1)

@@ -1,12 +1,9 @@
-use Rattle.std.proofs.Common.{◌≡◌, ℕ, zero, suc, ◌+◌, ◌-◌, ◌<◌, ◌≤◌, List, [], ◌∷◌, length, get_or, take, sym, refl, ◌∙◌, add-one, arith, take_all, take-suc}
+use Rattle.std.proofs.Common.{◌≡◌, ℕ, zero, suc, ◌+◌, ◌<◌, ◌≤◌, List, [], ◌∷◌, length, get_or, sym, ap, refl, ◌∙◌, add-one, arith, take_all, take-suc}
 use mathlib.Core.List.{map-append}
 use lib.Ieee.{Float, binary64, to_bits, nan}
 use Rattle.stored.specs.Stored.{bits_of}
+use Rattle.stored.proofs.bits.same.Invariants.{Sames}
 use Rattle.stored.proofs.bits.same.Goals as goal
-
-record Sames (x : List Float) (w : List ℕ) (i : ℕ) : Type 0 where
-  upto : i ≤ length x
-  is : bits_of (take i x) ≡ take i w
 
 module _ {x : List Float} {w : List ℕ} (e : length x ≡ length w) {i : ℕ} (d : Sames x w i) where
   turn : i < length x → to_bits binary64 (get_or x i nan) ≡ get_or w i 0 → Sames x w (i + 1)
@@ -34,10 +31,10 @@ pub loop-i-init : goal.loop-i-init
 loop-i-init c = begun _ _
 
 pub returns-then-bits_of-w : goal.returns-then-bits_of-w
-returns-then-bits_of-w c =
+returns-then-bits_of-w c e =
     let a = c.args in
     let at = bits_at a.x.now c.loop-i.i (omega arith) in
-    c.if-bits_of-w.true (c.bits_of.ensures ∙ rw e at (sym at))
+    c.if-bits_of-w.true (c.bits_of.ensures ∙ sym at ∙ ap (λ l. get_or l c.loop-i.i 0) e)
 
 pub loop-i-preserved : goal.loop-i-preserved
 loop-i-preserved c = turn c.requires c.loop-i.invariant (omega arith) (sym c.bits_of.ensures ∙ c.if-bits_of-w.false)

@@ -1,5 +1,5 @@
 -- `stored::bytes::spelt` is safe and ends: the bytes that are left are the measure. Assumes nothing.
-use Rattle.std.proofs.Common.{◌-◌, arith}
+use Rattle.std.proofs.Common.{◌-◌}
 use Rattle.stored.proofs.bytes.spelt.Given as goal
 
 abbrev pub invariant-loop-i : goal.invariant-loop-i

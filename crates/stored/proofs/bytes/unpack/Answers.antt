@@ -1,4 +1,4 @@
-use Rattle.std.proofs.Common.{◌≡◌, ◌-◌, length, refl, arith, length-set}
+use Rattle.std.proofs.Common.{refl, length-set}
 use Rattle.stored.proofs.bytes.unpack.Goals as goal
 
 pub loop-i-init : goal.loop-i-init

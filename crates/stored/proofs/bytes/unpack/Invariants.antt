@@ -1,5 +1,5 @@
 -- `stored::bytes::unpack` is safe and ends: the bytes that are left are the measure. Assumes nothing.
-use Rattle.std.proofs.Common.{◌≡◌, ◌-◌, length, refl, arith, length-set}
+use Rattle.std.proofs.Common.{◌≡◌, ◌-◌, length}
 use Rattle.stored.proofs.bytes.unpack.Given as goal
 
 abbrev pub invariant-loop-i : goal.invariant-loop-i

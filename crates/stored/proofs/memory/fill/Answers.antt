@@ -1,4 +1,4 @@
-use Rattle.std.proofs.Common.{◌≡◌, ◌-◌, length, arith, length-set}
+use Rattle.std.proofs.Common.{length-set}
 use Rattle.stored.proofs.memory.fill.Goals as goal
 
 pub loop-i-preserved : goal.loop-i-preserved

@@ -1,5 +1,5 @@
 -- `stored::memory::fill` is safe and ends: what is left of the length is the measure. Assumes nothing.
-use Rattle.std.proofs.Common.{◌≡◌, ◌-◌, length, arith, length-set}
+use Rattle.std.proofs.Common.{◌≡◌, ◌-◌, length}
 use Rattle.stored.proofs.memory.fill.Given as goal
 
 abbrev pub invariant-loop-i : goal.invariant-loop-i

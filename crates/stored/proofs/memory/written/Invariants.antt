@@ -1,5 +1,5 @@
 -- `stored::memory::written` is safe and ends: the index from which it looks back is the measure. Assumes nothing.
-use Rattle.std.proofs.Common.{◌≤◌, length, arith}
+use Rattle.std.proofs.Common.{◌≤◌, length}
 use Rattle.stored.proofs.memory.written.Given as goal
 
 abbrev pub invariant-loop-k : goal.invariant-loop-k

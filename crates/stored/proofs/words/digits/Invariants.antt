@@ -1,9 +1,7 @@
 -- `stored::words::digits` meets its contract. The loop's invariant: the k digits passed make n, which is below 16 ^ k, and the word
 -- is what the digits that are left write behind n. Assumes nothing.
-use Rattle.std.proofs.Common.{◌≡◌, ℕ, suc, ◌+◌, ◌-◌, ◌*◌, ◌^◌, ◌<◌, ◌≤◌, cond, ltb, List, length, get_or, take, drop, sym, ◌∙◌, lt_of_lt_of_le, add-zero, pow-suc, add-one, arith, drop-cons, le-ltb, lt-ltb}
-use native.Mathlib.Nat.{pow-le-pow_right}
-use Rattle.stored.specs.declared.words.Word.TheVariants.{Number, Bad}
-use Rattle.stored.specs.Words.{digit_of, hex_from}
+use Rattle.std.proofs.Common.{◌≡◌, ◌+◌, ◌-◌, ◌^◌, ◌<◌, ◌≤◌, take, drop}
+use Rattle.stored.specs.Words.{hex_from}
 use Rattle.stored.proofs.words.digits.Given as goal
 
 abbrev pub invariant-loop-k : goal.invariant-loop-k

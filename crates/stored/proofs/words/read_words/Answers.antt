@@ -1,10 +1,11 @@
-use Rattle.std.proofs.Common.{◌≡◌, ℕ, suc, ◌+◌, ◌-◌, ◌<◌, ◌≤◌, Bool, true, false, cond, eqb, leb, List, [], ◌++◌, length, take, drop, set, sym, refl, ap, ◌∙◌, append_assoc, append-nil, add-one, arith, length-set, take-append-drop, length-take-le, drop-drop, take-suc-set, drop-set-lt, rules, eq-eqb, ne_eqb, leb-true}
+use Rattle.std.proofs.Common.{◌≡◌, ℕ, suc, ◌+◌, ◌-◌, ◌<◌, ◌≤◌, Bool, true, false, cond, eqb, leb, List, [], length, take, drop, set, sym, refl, ap, ◌∙◌, append_assoc, append-nil, add-one, arith, length-set, take-append-drop, length-take-le, drop-drop, take-suc-set, drop-set-lt, eq-eqb, ne_eqb, leb-true}
 use native.Mathlib.Nat.{sub-zero}
 use Rattle.stored.specs.declared.words.Word.TheVariants.{Number, Bad}
 use Rattle.stored.specs.declared.words.Parsed.{Parsed}
 use Rattle.stored.specs.declared.words.Parsed.TheVariants.{Whole, BadAt}
 use Rattle.stored.specs.Words.{word_at}
 use Rattle.stored.specs.Runs.{numbers_from, parsed_of, RunRead}
+use Rattle.stored.proofs.words.read_words.Invariants.{Reading}
 use Rattle.stored.proofs.words.read_words.Goals as goal
 
 -- a word that is well formed lies within the bytes
@@ -14,12 +15,6 @@ within s at x e = go (leb (at + 17) (length s)) refl where
   go : (b : Bool) → leb (at + 17) (length s) ≡ b → at + 17 ≤ length s
   go true t = leb-true (at + 17) (length s) t
   go false t = let z : ◌≡◌ {A = ℕ} 0 1 = cc (rw t at e) in omega arith
-
-record Reading (s : List ℕ) (n : ℕ) (out₀ out : List ℕ) (at i : ℕ) : Type 0 where
-  upto : i ≤ n
-  long : length out ≡ length out₀
-  is : numbers_from n 0 s ≡ take i out ++ numbers_from (n - i) at s
-  rest : drop i out ≡ drop i out₀
 
 module _ {s : List ℕ} {n : ℕ} {out₀ out : List ℕ} {at i : ℕ} (d : Reading s n out₀ out at i) (l : n ≤ length out₀) where
   turn : (x : ℕ) → i < n → word_at s at ≡ Number x → Reading s n out₀ (set out i x) (at + 17) (i + 1)

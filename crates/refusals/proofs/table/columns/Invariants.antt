@@ -1,9 +1,0 @@
--- `refusals::table::columns` is safe and ends: the words that are left are the measure. Assumes nothing.
-use Rattle.std.proofs.Common.{◌-◌, arith}
-use Rattle.refusals.proofs.table.columns.Given as goal
-
-abbrev pub invariant-loop-i : goal.invariant-loop-i
-invariant-loop-i l = Unit {0}
-
-abbrev pub decreases-loop-i : goal.decreases-loop-i
-decreases-loop-i l = l.to - l.i
