@@ -9,7 +9,7 @@ pub mod room;
 pub mod tally;
 mod words;
 
-ghost use Rattle.std.specs.Prelude.{◌≡◌, ◌≤◌, min, length, IfOk};
+ghost use Rattle.std.specs.Prelude.{◌≡◌, ◌≤◌, min, length, IfOk, IfErr};
 
 use console::read_full;
 use std::io;
@@ -31,9 +31,10 @@ fn next_word<R: Read>(input: &mut R) -> io::Result<Word> {
     Ok(read_word(&bytes[..n], 0))
 }
 
-// An error where a read fails.
+// An error is a read's own, and leaves `out` as long as it was.
 pub fn next_record<R: Read>(input: &mut R, out: &mut [u64]) -> io::Result<Record>
-    ensures { IfOk result (λ r. r.words ≤ length out.new) }
+    ensures ok { IfOk result (λ r. r.words ≤ length out.new) }
+    ensures err { IfErr result (λ e. length out.new ≡ length out.old) }
 {
     let Word::Number(n) = next_word(input)? else {
         return Ok(damaged(0));
