@@ -26,6 +26,6 @@ returns-in-Failed c =
     let g = c.args in
     fails g.sh g.normalise g.gamma g.y.now g.s.now g.c c.solution-b.ensures.1
     c.ended-e.ensures c.wipe.ensures
-    c.solution-b.last.1.1.1.1.1.1.0
-    (c.solution-b.kept.1.1.1.1.1.1.0 ∙ c.requires.ends.weights)
+    c.solution-b.new.w
+    (c.solution-b.auto.w ∙ c.requires.ends.weights)
     c.fill.ensures c.in-Failed.is c.refused_by.ensures

@@ -56,7 +56,6 @@ begin-requires c =
 pub fresh_scalars-a-requires : goal.fresh_scalars-a-requires
 fresh_scalars-a-requires c =
     let passed : let g = c.args in Accepted g.n g.p (length g.x.now) (length g.y.now) g.p g.st (length g.s.now) = accepted (fine_of _ _ _ _ _ _ _ c.limits-c.result c.limits-c.ensures c.in_default.is) in
-    let a = passed (c) in
     omega arith
 
 pub shape_of-s : goal.shape_of-s
