@@ -21,7 +21,7 @@ use Rattle.layout.specs.Need.{sizes_of}
 use Rattle.bound.proofs.Lambda.{lambda-unsigned}
 use Rattle.pause.specs.Progress.{over, going, Always}
 use Rattle.pause.specs.Parts.{Parts, none, End, end, converged, limit, failed}
-use Rattle.pause.specs.Paused.{State, data_of, Pending, call, start}
+use Rattle.pause.specs.Paused.{State, counts_of, data_of, Pending, call, start}
 use Rattle.pause.specs.Invariant.{Keeps, Kept, EndKept}
 use Rattle.pause.proofs.Budgets.{call-pends}
 use Rattle.pause.proofs.Unbroken.{Leads, start-leads, call-leads, pause-early}
@@ -132,7 +132,7 @@ module _ (n p : ℕ) (x y : List Float) (st : Settings) where
     sizes-stay : Always (Kept (SizedData (sizes_of n p st))) (EndKept (SizedData (sizes_of n p st))) (call (parts_of n p x st) st.max_iter b z)
     sizes-stay =
         call_kept (parts_of n p x st) M (SizedData sh) (sizes-keep sh (terms_of st n) st.tol x M (proper n p st)) b z
-        (record { opened-all = g.within.opened-all; holds = to-data sh _ (data_of z) g.holds.sized })
+        (record { opened-all = g.within.opened-all; holds = to-data sh (counts_of z).rounds (data_of z) g.holds.sized })
 
     weights-stay : Always (Kept (KeptData (sizes_of n p st).p)) (EndKept (KeptData (sizes_of n p st).p)) (call (parts_of n p x st) st.max_iter b z)
     weights-stay = call_kept (parts_of n p x st) M (KeptData sh.p) (parts_within (length s) g.fits) b z g.within
@@ -161,7 +161,7 @@ module _ (n p : ℕ) (x y : List Float) (st : Settings) where
       unfolding parts flatly
       poised-next =
           let i : Kept (SizedData sh) t = rw q at sizes-stay in
-          let h : Has sh e (store_of (data_of t)) s' = record { is = ap (λ (o : Outcome). o.scratch) leaves; sized = of-data sh _ (data_of t) i.holds } in
+          let h : Has sh e (store_of (data_of t)) s' = record { is = ap (λ (o : Outcome). o.scratch) leaves; sized = of-data sh (counts_of t).rounds (data_of t) i.holds } in
           let long : length s' ≡ length s = length-of sh h ∙ sym (length-of sh g.holds) in
           record {
             is = ap (λ (o : Outcome). o.paused) leaves;

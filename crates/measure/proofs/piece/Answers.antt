@@ -25,9 +25,11 @@ gram-requires c = c.requires
 pub matvec-requires : goal.matvec-requires
 matvec-requires c =
     let h = held c.requires in
-    (h, from-w h)
+    let f = from-w h in
+    record { held = h; p_bound = f.0; y_le_out = f.1.0; k_bound = f.1.1 }
 
 pub transposed-requires : goal.transposed-requires
 transposed-requires c =
     let h = held c.requires in
-    (h, from-nu h)
+    let f = from-nu h in
+    record { held = h; p_bound = f.0; y_le_v = f.1.0; k_bound = f.1.1 }

@@ -37,10 +37,12 @@ pub matvec-requires : goal.matvec-requires
 matvec-requires c =
     let passed : let g = c.args in Accepted g.n g.p (length g.x.now) g.n g.p g.st (length g.s.now) = accepted (fine_of _ _ _ _ _ _ _ c.limits-c.result c.limits-c.ensures c.in-Fine.is) in
     let d = c.place-l.ensures in
-    (holds c.sizes_of-sh.ensures d passed, product d)
+    let f = product d in
+    record { held = holds c.sizes_of-sh.ensures d passed; p_bound = f.0; y_le_out = f.1.0; k_bound = f.1.1 }
 
 pub transposed-requires : goal.transposed-requires
 transposed-requires c =
     let passed : let g = c.args in Accepted g.n g.p (length g.x.now) g.n g.p g.st (length g.s.now) = accepted (fine_of _ _ _ _ _ _ _ c.limits-c.result c.limits-c.ensures c.in-Fine.is) in
     let d = c.place-l.ensures in
-    (held_on {s = c.args.s.now} (holds c.sizes_of-sh.ensures d passed) c.matvec.auto.s, transpose d)
+    let f = transpose d in
+    record { held = held_on {s = c.args.s.now} (holds c.sizes_of-sh.ensures d passed) c.matvec.auto.s; p_bound = f.0; y_le_v = f.1.0; k_bound = f.1.1 }
