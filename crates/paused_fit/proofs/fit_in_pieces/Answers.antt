@@ -13,9 +13,6 @@ enough : (M first second : ℕ) → Enough M (first ∷ second ∷ 5100 * M ∷ 
 unfolding total
 enough M first second = omega arith
 
-pub enum_known-fresh : goal.enum_known-fresh
-enum_known-fresh c = c.in-Ready.keys1
-
 pub overflow_mul-st : goal.overflow_mul-st
 overflow_mul-st c =
     let g = c.args in
@@ -31,9 +28,6 @@ settled-requires c =
     let g = c.args in
     has_ended g.n g.p g.x.now g.y.now g.st g.s.now g.w.now c.start_whole.result c.start_whole.ensures
     c.in-Ready.is c.resumed.result (enough g.st.max_iter g.first g.second) c.resumed.ensures
-
-pub enum_known-r : goal.enum_known-r
-enum_known-r c = c.in-Ready.keys2
 
 pub shape_of-s-in-Ready : goal.shape_of-s-in-Ready
 shape_of-s-in-Ready c =

@@ -6,9 +6,6 @@ use Rattle.promises.specs.Chain.{last, more}
 use Rattle.paused_fit.proofs.Pending.{not-pending}
 use Rattle.paused_fit.proofs.resumed.Goals as goal
 
-pub enum_told-1 : goal.enum_told-1
-enum_told-1 c = c.in-Pending.keys1
-
 pub shape_of-s-in_default : goal.shape_of-s-in_default
 shape_of-s-in_default c =
     let scratch₁ : length c.resume-r.new.s ≡ length c.args.s.now = c.resume-r.auto.s in
@@ -18,12 +15,6 @@ pub shape_of-w-in_default : goal.shape_of-w-in_default
 shape_of-w-in_default c =
     let weights₁ : length c.resume-r.new.w ≡ length c.args.w.now = c.resume-r.auto.w in
     weights₁
-
-pub returns-in_default : goal.returns-in_default
-returns-in_default c = last _ c.requires c.resume-r.ensures (λ h. absurd (not-pending c.resume-r.result.answer c.in-Pending.keys2 h))
-
-pub enum_told-in-Pending-a : goal.enum_told-in-Pending-a
-enum_told-in-Pending-a c = c.in-Pending-a.keys1
 
 pub shape_of-s-in_default-a : goal.shape_of-s-in_default-a
 shape_of-s-in_default-a c =
@@ -36,13 +27,6 @@ shape_of-w-in_default-a c =
     let weights₁ : length c.resume-r.new.w ≡ length c.args.w.now = c.resume-r.auto.w in
     let weights₂ : length c.resume-r-2.new.w ≡ length c.args.w.now = c.resume-r-2.auto.w ∙ weights₁ in
     weights₂
-
-pub returns-in_default-a : goal.returns-in_default-a
-returns-in_default-a c =
-    let weights₁ : length c.resume-r.new.w ≡ length c.args.w.now = c.resume-r.auto.w in
-    let l = c.requires in
-    more _ l c.resume-r.result _ _ c.resume-r.ensures (ap said c.in-Pending.is)
-    (last _ (weights₁ ∙ l) c.resume-r-2.ensures (λ h. absurd (not-pending c.resume-r-2.result.answer c.in-Pending-a.keys2 h)))
 
 pub shape_of-s : goal.shape_of-s
 shape_of-s c =

@@ -5,9 +5,6 @@ use lib.ListN.{length}
 use Rattle.whole_fit.proofs.Returns.{start-refuses, few, one_ended, one-settles}
 use Rattle.whole_fit.proofs.fit.Goals as goal
 
-pub enum_known-rec : goal.enum_known-rec
-enum_known-rec c = c.in-Ready.keys1
-
 pub overflow_mul-st : goal.overflow_mul-st
 overflow_mul-st c =
     let g = c.args in
@@ -18,9 +15,6 @@ settled-requires c =
     let g = c.args in
     one_ended g.n g.p g.x.now g.y.now g.st g.s.now g.w.now c.start_whole.result c.start_whole.ensures
     c.in-Ready.is c.resume.result c.resume.ensures
-
-pub enum_known-r : goal.enum_known-r
-enum_known-r c = c.in-Ready.keys2
 
 pub shape_of-s-in-Ready : goal.shape_of-s-in-Ready
 shape_of-s-in-Ready c =

@@ -2,12 +2,6 @@
 use Rattle.whole_fit.proofs.Returns.{passes, refuses}
 use Rattle.whole_fit.proofs.start_whole.Goals as goal
 
-pub enum_told-1 : goal.enum_told-1
-enum_told-1 c = c.in-Fine.keys1
-
-pub enum_known-r : goal.enum_known-r
-enum_known-r c = c.in-Fine.keys2
-
 pub shape_of-s : goal.shape_of-s
 shape_of-s c = c.start.auto.s
 
