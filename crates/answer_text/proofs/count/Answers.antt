@@ -1,5 +1,4 @@
 -- `answer_text::count` meets its contract. Assumes nothing.
-use native.Mathlib.Omega.{arith}
 use Rattle.answer_text.specs.Text.{count_text}
 use Rattle.answer_text.proofs.Writes.{then}
 use Rattle.answer_text.proofs.count.Goals as goal

@@ -1,6 +1,5 @@
 -- `answer_text::digit` meets its contract. Assumes nothing.
 use borrow.Author.Tests.{lt-ltb, le-ltb}
-use native.Mathlib.Omega.{arith}
 use Rattle.answer_text.specs.Text.{digit_of}
 use Rattle.answer_text.proofs.digit.Goals as goal
 

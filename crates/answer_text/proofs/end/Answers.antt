@@ -1,5 +1,4 @@
 -- `answer_text::end` meets its contract. Assumes nothing.
-use native.Mathlib.Omega.{arith}
 use Rattle.answer_text.specs.Text.{end_text}
 use Rattle.answer_text.proofs.end.Goals as goal
 

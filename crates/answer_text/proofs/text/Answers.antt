@@ -1,7 +1,5 @@
-use Prim.Native.Nat.{◌-◌}
 use native.Mathlib.Omega.{arith}
-use lib.ListN.{length}
-use Rattle.answer_text.proofs.Writes.{Copying, begun, copied, all-copied}
+use Rattle.answer_text.proofs.Writes.{begun, copied, all-copied}
 use Rattle.answer_text.proofs.text.Goals as goal
 
 pub loop-i-init : goal.loop-i-init

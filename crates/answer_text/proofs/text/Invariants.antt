@@ -1,9 +1,8 @@
 -- `answer_text::text` meets its contract. The invariant: the first i bytes are written from `at` on, and all else is as it was.
 -- The measure: length s - i. Assumes nothing.
 use Prim.Native.Nat.{◌-◌}
-use native.Mathlib.Omega.{arith}
 use lib.ListN.{length}
-use Rattle.answer_text.proofs.Writes.{Copying, begun, copied, all-copied}
+use Rattle.answer_text.proofs.Writes.{Copying}
 use Rattle.answer_text.proofs.text.Given as goal
 
 abbrev pub invariant-loop-i : goal.invariant-loop-i

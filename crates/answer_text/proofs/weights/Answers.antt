@@ -1,7 +1,5 @@
-use Prim.Native.Nat.{◌-◌}
 use native.Mathlib.Omega.{arith}
-use lib.ListN.{length}
-use Rattle.answer_text.proofs.Lines.{Lined, lined-none, lined-more, all-lined}
+use Rattle.answer_text.proofs.Lines.{lined-none, lined-more, all-lined}
 use Rattle.answer_text.proofs.weights.Goals as goal
 
 pub loop-j-init : goal.loop-j-init

@@ -1,9 +1,8 @@
 -- `answer_text::weights` meets its contract. The invariant: the lines of the first j weights are written and end at a, 22 bytes a line at most.
 -- The measure: length w - j. Assumes nothing.
 use Prim.Native.Nat.{◌-◌}
-use native.Mathlib.Omega.{arith}
 use lib.ListN.{length}
-use Rattle.answer_text.proofs.Lines.{Lined, lined-none, lined-more, all-lined}
+use Rattle.answer_text.proofs.Lines.{Lined}
 use Rattle.answer_text.proofs.weights.Given as goal
 
 abbrev pub invariant-loop-j : goal.invariant-loop-j

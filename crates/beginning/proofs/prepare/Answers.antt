@@ -1,6 +1,5 @@
 -- `beginning::prepare` meets its contract: the two modes. Assumes nothing.
 use mathlib.Core.Path.{◌∙◌}
-use native.Mathlib.Omega.{arith}
 use Rattle.beginning.proofs.Starts.{begins-on, given, lent, unstored, stored}
 use Rattle.beginning.proofs.prepare.Goals as goal
 

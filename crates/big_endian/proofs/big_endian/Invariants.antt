@@ -1,12 +1,7 @@
 -- `big_endian::big_endian` meets its contract. The invariant: v is the number in the first j bytes, and below 256 ^ j, so that nothing overflows.
 -- The measure: k - j. Assumes nothing.
-use mathlib.Core.Path.{◌≡◌, refl}
-use mathlib.Core.List.{List}
-use Prim.Native.Nat.{ℕ, ◌+◌, ◌-◌, ◌*◌, ◌^◌, ◌≤◌, ◌<◌}
-use native.Mathlib.Nat.{pow-suc, pow-le-pow_right, lt_of_lt_of_le}
-use native.Mathlib.Numerals.{add-one}
-use native.Mathlib.Omega.{arith}
-use lib.ListN.{get_or}
+use mathlib.Core.Path.{◌≡◌}
+use Prim.Native.Nat.{◌-◌, ◌^◌, ◌≤◌, ◌<◌}
 use Rattle.big_endian.specs.Bytes.{big_endian}
 use Rattle.big_endian.proofs.big_endian.Given as goal
 

@@ -1,6 +1,5 @@
 -- `big_endian::float_at` meets its contract. Assumes nothing.
 use mathlib.Core.Path.{ap, ◌∙◌}
-use native.Mathlib.Omega.{arith}
 use Rattle.numbers.specs.Ops.{f64}
 use Rattle.big_endian.proofs.float_at.Goals as goal
 

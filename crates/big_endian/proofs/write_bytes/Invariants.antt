@@ -1,12 +1,9 @@
 -- `big_endian::write_bytes` meets its contract. The invariant: the first j bytes are written, and all else is as it was. The measure: how many are left.
 -- Assumes nothing.
-use mathlib.Core.Path.{◌≡◌, refl, ap, ◌∙◌}
-use mathlib.Core.List.{List}
-use Prim.Native.Nat.{ℕ, ◌+◌, ◌-◌, ◌≤◌}
-use native.Mathlib.Omega.{arith}
-use lib.ListN.{length, get_or, set, length-set}
+use mathlib.Core.Path.{◌≡◌}
+use Prim.Native.Nat.{◌-◌, ◌≤◌}
+use lib.ListN.{length, get_or}
 use Rattle.arrays.specs.Part.{put, tab}
-use Rattle.arrays.proofs.Part.{put-tab-none, put-tab-more, tab-all}
 use Rattle.big_endian.proofs.write_bytes.Given as goal
 
 abbrev pub invariant-loop-j : goal.invariant-loop-j

@@ -1,5 +1,4 @@
 -- `big_endian::write_float` meets its contract. Assumes nothing.
-use native.Mathlib.Omega.{arith}
 use Rattle.big_endian.proofs.write_float.Goals as goal
 
 pub returns : goal.returns

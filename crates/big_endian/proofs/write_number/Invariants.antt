@@ -1,14 +1,10 @@
 -- `big_endian::write_number` meets its contract. The invariant: with the k - j low bytes of what is left of v written too, the output is as due.
 -- The measure: k - j. Assumes nothing.
-use mathlib.Core.Path.{◌≡◌, refl, sym, ap, ◌∙◌}
-use mathlib.Core.List.{List, [], ◌∷◌}
-use Prim.Native.Nat.{ℕ, suc, ◌+◌, ◌-◌, ◌/◌, ◌%◌, ◌≤◌, ◌<◌}
-use native.Mathlib.Omega.{arith}
-use lib.ListN.{length, set, length-set}
+use mathlib.Core.Path.{◌≡◌}
+use Prim.Native.Nat.{◌-◌, ◌≤◌}
+use lib.ListN.{length}
 use Rattle.arrays.specs.Part.{put}
-use Rattle.arrays.proofs.Part.{put-comm, put-none, put-snoc}
 use Rattle.big_endian.specs.Bytes.{bytes_of}
-use Rattle.big_endian.proofs.Bytes.{length-bytes}
 use Rattle.big_endian.proofs.write_number.Given as goal
 
 abbrev pub invariant-loop-j : goal.invariant-loop-j

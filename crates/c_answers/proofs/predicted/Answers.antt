@@ -1,5 +1,4 @@
 -- `c_answers::predicted` meets its contract. Assumes nothing.
-use borrow.Author.Rules.{rules}
 use Rattle.c_answers.proofs.predicted.Goals as goal
 
 pub returns-in-Done : goal.returns-in-Done

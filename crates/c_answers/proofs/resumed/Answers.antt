@@ -1,5 +1,4 @@
 -- `c_answers::resumed` meets its contract. Assumes nothing.
-use borrow.Author.Rules.{rules}
 use Rattle.c_answers.proofs.Telling.{done-told}
 use Rattle.c_answers.proofs.resumed.Goals as goal
 

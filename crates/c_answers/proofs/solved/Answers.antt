@@ -1,5 +1,4 @@
 -- `c_answers::solved` meets its contract. Assumes nothing.
-use borrow.Author.Rules.{rules}
 use Rattle.c_answers.proofs.solved.Goals as goal
 
 pub returns-in-Solved : goal.returns-in-Solved

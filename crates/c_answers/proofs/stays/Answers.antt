@@ -1,5 +1,4 @@
 -- `c_answers::stays` meets its contract. Assumes nothing.
-use borrow.Author.Rules.{rules}
 use Rattle.c_answers.proofs.Telling.{done-written, refusal-written}
 use Rattle.c_answers.proofs.stays.Goals as goal
 

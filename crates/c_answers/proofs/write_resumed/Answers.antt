@@ -1,5 +1,4 @@
 -- `c_answers::write_resumed` meets its contract. Assumes nothing.
-use borrow.Author.Rules.{rules}
 use Rattle.c_answers.proofs.write_resumed.Goals as goal
 
 pub returns-then-stays : goal.returns-then-stays

@@ -1,5 +1,4 @@
 -- `c_answers::write_started` meets its contract. Assumes nothing.
-use borrow.Author.Rules.{rules}
 use Rattle.c_answers.proofs.write_started.Goals as goal
 
 pub returns-in-Ready : goal.returns-in-Ready

@@ -1,8 +1,6 @@
 -- `c_api::xangoravit_resume` meets its contract. Assumes nothing.
 use mathlib.Core.Path.{◌≡◌, sym, ◌∙◌}
 use mathlib.Core.Bool.{true}
-use borrow.Author.Rules.{rules}
-use borrow.Author.Tests.{not-true, not-false}
 use lib.ListN.{length}
 use Rattle.c_api.proofs.Calls.{Due, Lengths, lengths, resume-not-due, resume-due}
 use Rattle.c_api.proofs.xangoravit_resume.Goals as goal

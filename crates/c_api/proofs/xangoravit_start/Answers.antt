@@ -1,7 +1,6 @@
 -- `c_api::xangoravit_start` meets its contract. Assumes nothing.
 use mathlib.Core.Path.{◌≡◌, sym, ◌∙◌}
 use mathlib.Core.Bool.{true}
-use borrow.Author.Tests.{not-true, not-false}
 use lib.ListN.{length}
 use Rattle.c_api.proofs.Calls.{Due, Lengths, lengths, start-not-due, start-due}
 use Rattle.c_api.proofs.xangoravit_start.Goals as goal

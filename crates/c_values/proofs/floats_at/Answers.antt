@@ -1,5 +1,4 @@
 -- `c_values::floats_at` meets its contract. Assumes nothing.
-use native.Mathlib.Omega.{arith}
 use Rattle.c_values.proofs.floats_at.Goals as goal
 
 pub returns : goal.returns

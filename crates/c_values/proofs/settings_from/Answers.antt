@@ -1,5 +1,4 @@
 -- `c_values::settings_from` meets its contract. Assumes nothing.
-use native.Mathlib.Omega.{arith}
 use Rattle.c_values.specs.Settings.{settings_from}
 use Rattle.c_values.proofs.settings_from.Goals as goal
 

@@ -1,6 +1,4 @@
 -- `c_words::paused_from` meets its contract. Assumes nothing.
-use borrow.Author.Rules.{rules}
-use native.Mathlib.Omega.{arith}
 use Rattle.c_words.specs.Words.{paused_from}
 use Rattle.c_words.proofs.paused_from.Goals as goal
 

@@ -1,5 +1,4 @@
 -- `c_words::scalars_from` meets its contract. Assumes nothing.
-use native.Mathlib.Omega.{arith}
 use Rattle.c_words.proofs.scalars_from.Goals as goal
 
 pub returns : goal.returns

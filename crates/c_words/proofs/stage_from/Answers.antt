@@ -1,5 +1,4 @@
 -- `c_words::stage_from` meets its contract. Assumes nothing.
-use borrow.Author.Rules.{rules}
 use mathlib.Core.Path.{◌≡◌, refl}
 use Prim.Native.Nat.{ℕ, zero, suc}
 use Rattle.records.specs.declared.Stage.TheVariants.{Ended}

@@ -1,5 +1,4 @@
 -- `c_words::write_scalars` meets its contract. Assumes nothing.
-use borrow.Author.Rules.{rules}
 use mathlib.Core.Path.{◌∙◌}
 use lib.ListN.{length-set}
 use Rattle.c_words.proofs.write_scalars.Goals as goal

@@ -1,7 +1,6 @@
 -- `checks::scratch_words` meets its contract: 0 where the first part of the conjunction fails, or the second; else the need. Assumes nothing.
 use mathlib.Core.Path.{◌≡◌, sym, ◌∙◌}
 use mathlib.Core.Bool.{true}
-use borrow.Author.Tests.{not-true, not-false}
 use Rattle.settings.specs.Settings.{allowed_of}
 use Rattle.refusal.specs.Sizes.{in_size}
 use Rattle.refusal.proofs.Sizes.{size_of}

@@ -2,8 +2,6 @@
 use mathlib.Core.Path.{◌≡◌, sym, ap, ◌∙◌}
 use native.Mathlib.Nat.{mul-le-mul}
 use native.Mathlib.Omega.{arith}
-use borrow.Author.Rules.{rules}
-use borrow.Author.Tests.{not-true, not-false}
 use Rattle.refusal.proofs.Scanning.{near}
 use Rattle.checks.specs.Checks.{ask_constant, start_values}
 use Rattle.checks.proofs.Values.{Finite, in-matrix, in-targets, all-finite, raw, normal}

@@ -1,12 +1,10 @@
-use Prim.Native.Nat.{◌-◌, ◌≤◌}
 use mathlib.Core.Path.{◌≡◌, refl}
 use native.Mathlib.Omega.{arith}
 use lib.ListN.{length-set}
 use Rattle.matrices.proofs.Lengths.{row_room}
-use Rattle.several.specs.Several.{gathered}
 use Rattle.several.proofs.Added.{gathered_none, gathered-more}
 use Rattle.column_moments.specs.Added.{itself, squared, rows_added}
-use Rattle.column_moments.proofs.Pairs.{Pair, pair-none, column-added}
+use Rattle.column_moments.proofs.Pairs.{pair-none, column-added}
 use Rattle.column_moments.proofs.add_four.Goals as goal
 
 pub loop-j-init : goal.loop-j-init

@@ -1,14 +1,10 @@
 -- `column_moments::add_four` meets its contract. The outer invariant: both sums of the first j columns are written, and all else is as it was; the inner: t and
 -- u are those of column j with the first k rows. The measures: cols - j and 4 - k. Assumes nothing.
 use Prim.Native.Nat.{◌-◌, ◌≤◌}
-use mathlib.Core.Path.{◌≡◌, refl}
-use native.Mathlib.Omega.{arith}
-use lib.ListN.{length-set}
-use Rattle.matrices.proofs.Lengths.{row_room}
+use mathlib.Core.Path.{◌≡◌}
 use Rattle.several.specs.Several.{gathered}
-use Rattle.several.proofs.Added.{gathered_none, gathered-more}
-use Rattle.column_moments.specs.Added.{itself, squared, rows_added}
-use Rattle.column_moments.proofs.Pairs.{Pair, pair-none, column-added}
+use Rattle.column_moments.specs.Added.{itself, squared}
+use Rattle.column_moments.proofs.Pairs.{Pair}
 use Rattle.column_moments.proofs.add_four.Given as goal
 
 abbrev pub invariant-loop-k : goal.invariant-loop-k

@@ -1,9 +1,9 @@
-use Prim.Native.Nat.{◌+◌, ◌-◌, ◌*◌, ◌≤◌}
+use Prim.Native.Nat.{◌+◌, ◌*◌}
 use mathlib.Core.Path.{◌≡◌}
 use native.Mathlib.Omega.{arith}
 use Rattle.matrices.proofs.Lengths.{rows-room}
 use Rattle.column_moments.specs.Added.{rows_added}
-use Rattle.column_moments.proofs.Pairs.{WithRows, rows_none, rows_on}
+use Rattle.column_moments.proofs.Pairs.{rows_none, rows_on}
 use Rattle.column_moments.proofs.add_fours.Goals as goal
 
 pub loop-i-init : goal.loop-i-init

@@ -1,10 +1,6 @@
 -- `column_moments::add_fours` meets its contract. The invariant: the first 4 * i rows are added. The measure: q - i. Assumes nothing.
-use Prim.Native.Nat.{◌+◌, ◌-◌, ◌*◌, ◌≤◌}
-use mathlib.Core.Path.{◌≡◌}
-use native.Mathlib.Omega.{arith}
-use Rattle.matrices.proofs.Lengths.{rows-room}
-use Rattle.column_moments.specs.Added.{rows_added}
-use Rattle.column_moments.proofs.Pairs.{WithRows, rows_none, rows_on}
+use Prim.Native.Nat.{◌-◌, ◌*◌, ◌≤◌}
+use Rattle.column_moments.proofs.Pairs.{WithRows}
 use Rattle.column_moments.proofs.add_fours.Given as goal
 
 abbrev pub invariant-loop-i : goal.invariant-loop-i

@@ -1,11 +1,9 @@
-use Prim.Native.Nat.{◌-◌, ◌≤◌}
 use mathlib.Core.Path.{◌≡◌}
 use native.Mathlib.Omega.{arith}
 use lib.ListN.{length-set}
-use Rattle.several.specs.Several.{gathered}
 use Rattle.several.proofs.Added.{gathered-one}
 use Rattle.column_moments.specs.Added.{itself, squared, rows_added}
-use Rattle.column_moments.proofs.Pairs.{Pair, pair-none, column-added}
+use Rattle.column_moments.proofs.Pairs.{pair-none, column-added}
 use Rattle.column_moments.proofs.add_row.Goals as goal
 
 pub loop-j-init : goal.loop-j-init

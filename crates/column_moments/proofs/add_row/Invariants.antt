@@ -1,13 +1,9 @@
 -- `column_moments::add_row` meets its contract. The invariant: both sums of the first j columns are written, and all else is as it was.
 -- The measure: cols - j. Assumes nothing.
 use Prim.Native.Nat.{◌-◌, ◌≤◌}
-use mathlib.Core.Path.{◌≡◌}
-use native.Mathlib.Omega.{arith}
-use lib.ListN.{length-set}
 use Rattle.several.specs.Several.{gathered}
-use Rattle.several.proofs.Added.{gathered-one}
-use Rattle.column_moments.specs.Added.{itself, squared, rows_added}
-use Rattle.column_moments.proofs.Pairs.{Pair, pair-none, column-added}
+use Rattle.column_moments.specs.Added.{itself, squared}
+use Rattle.column_moments.proofs.Pairs.{Pair}
 use Rattle.column_moments.proofs.add_row.Given as goal
 
 abbrev pub invariant-loop-j : goal.invariant-loop-j

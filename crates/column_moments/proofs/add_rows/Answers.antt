@@ -1,9 +1,8 @@
-use Prim.Native.Nat.{◌-◌, ◌≤◌}
 use mathlib.Core.Path.{◌≡◌, refl}
 use native.Mathlib.Omega.{arith}
 use Rattle.matrices.proofs.Lengths.{row_room}
 use Rattle.column_moments.specs.Added.{rows_added}
-use Rattle.column_moments.proofs.Pairs.{WithRows, rows_none, rows_on}
+use Rattle.column_moments.proofs.Pairs.{rows_none, rows_on}
 use Rattle.column_moments.proofs.add_rows.Goals as goal
 
 pub loop-i-init : goal.loop-i-init

@@ -1,10 +1,6 @@
 -- `column_moments::add_rows` meets its contract. The invariant: the first i rows from `at` on are added. The measure: left - i. Assumes nothing.
 use Prim.Native.Nat.{◌-◌, ◌≤◌}
-use mathlib.Core.Path.{◌≡◌, refl}
-use native.Mathlib.Omega.{arith}
-use Rattle.matrices.proofs.Lengths.{row_room}
-use Rattle.column_moments.specs.Added.{rows_added}
-use Rattle.column_moments.proofs.Pairs.{WithRows, rows_none, rows_on}
+use Rattle.column_moments.proofs.Pairs.{WithRows}
 use Rattle.column_moments.proofs.add_rows.Given as goal
 
 abbrev pub invariant-loop-i : goal.invariant-loop-i

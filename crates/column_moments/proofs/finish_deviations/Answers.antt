@@ -1,11 +1,6 @@
-use Prim.Native.Nat.{◌-◌}
 use native.Mathlib.Omega.{arith}
-use Rattle.numbers.specs.Ops.{◌⊖◌, ◌⊗◌, ◌⊘◌}
-use Rattle.numbers.specs.Root.{root_of}
-use Rattle.arrays.specs.Part.{part}
-use Rattle.arrays.specs.Sums.{◌!◌}
 use Rattle.arrays.specs.Vectors.{zip_of}
-use Rattle.arrays.proofs.Turns.{Made, made_none, made_more, kept, made_all}
+use Rattle.arrays.proofs.Turns.{made_none, made_more, kept, made_all}
 use Rattle.column_moments.proofs.finish_deviations.Goals as goal
 
 pub loop-j-init : goal.loop-j-init

@@ -1,13 +1,11 @@
 -- `column_moments::finish_deviations` meets its contract. The invariant: the first j sums of squares have become deviations, and all else is as it was.
 -- The measure: cols - j. Assumes nothing.
 use Prim.Native.Nat.{◌-◌}
-use native.Mathlib.Omega.{arith}
 use Rattle.numbers.specs.Ops.{◌⊖◌, ◌⊗◌, ◌⊘◌}
 use Rattle.numbers.specs.Root.{root_of}
 use Rattle.arrays.specs.Part.{part}
 use Rattle.arrays.specs.Sums.{◌!◌}
-use Rattle.arrays.specs.Vectors.{zip_of}
-use Rattle.arrays.proofs.Turns.{Made, made_none, made_more, kept, made_all}
+use Rattle.arrays.proofs.Turns.{Made}
 use Rattle.column_moments.proofs.finish_deviations.Given as goal
 
 abbrev pub invariant-loop-j : goal.invariant-loop-j

@@ -1,14 +1,10 @@
 -- `column_moments::finish_means` meets its contract. The invariant: the first j sums are divided, and all else is as it was.
 -- The measure: cols - j. Assumes nothing.
 use Prim.Native.Nat.{◌-◌}
-use mathlib.Core.Path.{refl}
-use native.Mathlib.Omega.{arith}
-use lib.Ieee.{Float}
 use Rattle.numbers.specs.Ops.{◌⊘◌}
 use Rattle.arrays.specs.Part.{part}
 use Rattle.arrays.specs.Sums.{◌!◌}
-use Rattle.arrays.specs.Vectors.{map_of}
-use Rattle.arrays.proofs.Turns.{Made, made_none, map_more, made_all}
+use Rattle.arrays.proofs.Turns.{Made}
 use Rattle.column_moments.proofs.finish_means.Given as goal
 
 abbrev pub invariant-loop-j : goal.invariant-loop-j

@@ -1,5 +1,4 @@
 -- `design_products::matvec` meets its contract. Assumes nothing.
-use borrow.Author.Rules.{rules}
 use Rattle.design_products.proofs.Modes.{upward, stored-upward, lazy-rows, stored-rows}
 use Rattle.design_products.proofs.matvec.Goals as goal
 

@@ -1,5 +1,4 @@
 -- `design_products::transposed` meets its contract. Assumes nothing.
-use borrow.Author.Rules.{rules}
 use Rattle.design_products.proofs.Modes.{downward, stored-downward, lazy-columns, stored-columns}
 use Rattle.design_products.proofs.transposed.Goals as goal
 

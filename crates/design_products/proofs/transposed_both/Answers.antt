@@ -1,5 +1,4 @@
 -- `design_products::transposed_both` meets its contract: the places are those of two single products. Assumes nothing.
-use native.Mathlib.Omega.{arith}
 use Rattle.design_products.proofs.Modes.{downward, stored-downward, lazy-columns, stored-columns}
 use Rattle.design_products.proofs.transposed_both.Goals as goal
 

@@ -1,5 +1,4 @@
 -- `duality::gap` meets its contract. Assumes nothing.
-use native.Mathlib.Omega.{arith}
 use Rattle.duality.proofs.Stores.{did-gap}
 use Rattle.duality.proofs.gap.Goals as goal
 

@@ -1,5 +1,4 @@
 -- `duality::primal_and_dual` meets its contract. Assumes nothing.
-use native.Mathlib.Omega.{arith}
 use Rattle.lasso_optimizer.specs.Opening.{primal_of, dual_of}
 use Rattle.duality.proofs.primal_and_dual.Goals as goal
 

@@ -1,5 +1,4 @@
 -- `duality::shrink` meets its contract. Assumes nothing.
-use native.Mathlib.Omega.{arith}
 use Rattle.duality.proofs.Stores.{shrunk, unshrunk}
 use Rattle.duality.proofs.shrink.Goals as goal
 

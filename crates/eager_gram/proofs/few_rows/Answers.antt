@@ -1,8 +1,7 @@
-use Prim.Native.Nat.{◌-◌}
 use native.Mathlib.Nat.{one-mul}
 use native.Mathlib.Omega.{arith}
 use Rattle.matrices.proofs.Lengths.{row_room}
-use Rattle.eager_gram.proofs.Added.{Summed, summed-none, summed-more, summed-all}
+use Rattle.eager_gram.proofs.Added.{summed-none, summed-more, summed-all}
 use Rattle.eager_gram.proofs.few_rows.Goals as goal
 
 pub loop-i-init : goal.loop-i-init

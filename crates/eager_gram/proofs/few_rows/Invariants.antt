@@ -1,9 +1,6 @@
 -- `eager_gram::few_rows` meets its contract. The invariant: i rows are added, and all else is as it was. The measure: left - i. Assumes nothing.
 use Prim.Native.Nat.{◌-◌}
-use native.Mathlib.Nat.{one-mul}
-use native.Mathlib.Omega.{arith}
-use Rattle.matrices.proofs.Lengths.{row_room}
-use Rattle.eager_gram.proofs.Added.{Summed, summed-none, summed-more, summed-all}
+use Rattle.eager_gram.proofs.Added.{Summed}
 use Rattle.eager_gram.proofs.few_rows.Given as goal
 
 abbrev pub invariant-loop-i : goal.invariant-loop-i

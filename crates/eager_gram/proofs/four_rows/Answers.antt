@@ -1,8 +1,6 @@
-use Prim.Native.Nat.{◌-◌}
 use native.Mathlib.Omega.{arith}
 use Rattle.matrices.proofs.Lengths.{row_room}
-use Rattle.gram_panels.specs.Panels.{low, carry}
-use Rattle.gram_panels.proofs.Mats.{Striped, striped-none, striped-all}
+use Rattle.gram_panels.proofs.Mats.{striped-none, striped-all}
 use Rattle.eager_gram.proofs.Added.{entry-row-more}
 use Rattle.eager_gram.proofs.four_rows.Goals as goal
 

@@ -1,11 +1,8 @@
 -- `eager_gram::four_rows` meets its contract. The invariant: the first r rows of the lower triangle have four products more, and all else is as it was.
 -- The measure: p - r. Assumes nothing.
 use Prim.Native.Nat.{◌-◌}
-use native.Mathlib.Omega.{arith}
-use Rattle.matrices.proofs.Lengths.{row_room}
 use Rattle.gram_panels.specs.Panels.{low, carry}
-use Rattle.gram_panels.proofs.Mats.{Striped, striped-none, striped-all}
-use Rattle.eager_gram.proofs.Added.{entry-row-more}
+use Rattle.gram_panels.proofs.Mats.{Striped}
 use Rattle.eager_gram.proofs.four_rows.Given as goal
 
 abbrev pub invariant-loop-r : goal.invariant-loop-r

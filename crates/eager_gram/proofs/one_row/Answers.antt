@@ -1,12 +1,11 @@
-use Prim.Native.Nat.{ℕ, ◌-◌}
+use Prim.Native.Nat.{ℕ}
 use mathlib.Core.Path.{ap, ◌∙◌}
 use native.Mathlib.Omega.{arith}
 use Rattle.arrays.specs.Part.{put}
 use Rattle.arrays.specs.Sums.{◌!◌}
 use Rattle.several.proofs.Added.{added-one}
 use Rattle.matrices.proofs.Lengths.{row_room}
-use Rattle.gram_panels.specs.Panels.{low, carry}
-use Rattle.gram_panels.proofs.Mats.{Striped, striped-none, striped-all}
+use Rattle.gram_panels.proofs.Mats.{striped-none, striped-all}
 use Rattle.eager_gram.proofs.Added.{entry-row-more}
 use Rattle.eager_gram.proofs.one_row.Goals as goal
 

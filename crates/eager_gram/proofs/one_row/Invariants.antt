@@ -1,15 +1,8 @@
 -- `eager_gram::one_row` meets its contract. The invariant: the first r rows of the lower triangle have one product more, and all else is as it was.
 -- The measure: p - r. Assumes nothing.
-use Prim.Native.Nat.{ℕ, ◌-◌}
-use mathlib.Core.Path.{ap, ◌∙◌}
-use native.Mathlib.Omega.{arith}
-use Rattle.arrays.specs.Part.{put}
-use Rattle.arrays.specs.Sums.{◌!◌}
-use Rattle.several.proofs.Added.{added-one}
-use Rattle.matrices.proofs.Lengths.{row_room}
+use Prim.Native.Nat.{◌-◌}
 use Rattle.gram_panels.specs.Panels.{low, carry}
-use Rattle.gram_panels.proofs.Mats.{Striped, striped-none, striped-all}
-use Rattle.eager_gram.proofs.Added.{entry-row-more}
+use Rattle.gram_panels.proofs.Mats.{Striped}
 use Rattle.eager_gram.proofs.one_row.Given as goal
 
 abbrev pub invariant-loop-r : goal.invariant-loop-r

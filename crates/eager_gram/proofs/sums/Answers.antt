@@ -2,7 +2,7 @@ use mathlib.Core.Path.{◌≡◌}
 use Prim.Native.Nat.{◌+◌, ◌-◌}
 use native.Mathlib.Omega.{arith}
 use Rattle.matrices.proofs.Lengths.{rows-room}
-use Rattle.eager_gram.proofs.Added.{Summed, summed-none, summed-more}
+use Rattle.eager_gram.proofs.Added.{summed-none, summed-more}
 use Rattle.eager_gram.proofs.sums.Goals as goal
 
 pub loop-i-init : goal.loop-i-init

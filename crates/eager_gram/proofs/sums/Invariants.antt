@@ -1,10 +1,7 @@
 -- `eager_gram::sums` meets its contract. The invariant: i rows are added, and all else is as it was. The measure: n - i, which falls by four. Assumes
 -- nothing.
-use mathlib.Core.Path.{◌≡◌}
-use Prim.Native.Nat.{◌+◌, ◌-◌}
-use native.Mathlib.Omega.{arith}
-use Rattle.matrices.proofs.Lengths.{rows-room}
-use Rattle.eager_gram.proofs.Added.{Summed, summed-none, summed-more}
+use Prim.Native.Nat.{◌-◌}
+use Rattle.eager_gram.proofs.Added.{Summed}
 use Rattle.eager_gram.proofs.sums.Given as goal
 
 abbrev pub invariant-loop-i : goal.invariant-loop-i

@@ -2,7 +2,6 @@
 use mathlib.Core.Path.{◌≡◌, ◌∙◌}
 use lib.ListN.{length}
 use native.Mathlib.Omega.{arith}
-use borrow.Author.Rules.{rules}
 use Rattle.design_products.specs.Mode.{Held}
 use Rattle.design_products.proofs.Lengths.{held_on}
 use Rattle.elastic_net.proofs.Calls.{few-rounds, small, holds, may-end}

@@ -1,6 +1,5 @@
 -- `elastic_net::finish` meets its contract: one return for a fit that is done, and one for a fit that failed, whose weights are +0. Assumes nothing.
 use mathlib.Core.Path.{◌∙◌}
-use borrow.Author.Rules.{rules}
 use Rattle.layout.specs.Slots.{words}
 use Rattle.elastic_net.proofs.Ends.{is-done, fails}
 use Rattle.elastic_net.proofs.finish.Goals as goal

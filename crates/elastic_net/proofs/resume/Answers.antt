@@ -1,8 +1,6 @@
 -- `elastic_net::resume` meets its contract: the two refusals leave everything as it was; past them it is `accepted`. Assumes nothing.
 use mathlib.Core.Path.{sym, ◌∙◌}
 use native.Mathlib.Omega.{arith}
-use borrow.Author.Rules.{rules}
-use borrow.Author.Tests.{not-true, not-false}
 use lib.ListN.{length}
 use Rattle.checks.specs.Checks.{Accepted}
 use Rattle.checks.proofs.Laws.{fine_of, accepted}

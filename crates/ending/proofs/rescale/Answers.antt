@@ -1,12 +1,9 @@
-use Prim.Native.Nat.{◌<◌, ◌-◌}
+use Prim.Native.Nat.{◌<◌}
 use native.Mathlib.Omega.{arith}
 use lib.Ieee.{nan}
-use Rattle.numbers.specs.Ops.{◌⊗◌, ◌⊘◌}
-use Rattle.arrays.specs.Part.{part}
 use Rattle.arrays.proofs.Part.{get_or-part}
-use Rattle.arrays.specs.Sums.{◌!◌}
 use Rattle.arrays.specs.Vectors.{zip_of}
-use Rattle.arrays.proofs.Turns.{Made, made_none, array-more, array-all}
+use Rattle.arrays.proofs.Turns.{made_none, array-more, array-all}
 use Rattle.ending.specs.End.{rescaled_of}
 use Rattle.ending.proofs.Whole.{unwritten}
 use Rattle.ending.proofs.rescale.Goals as goal

@@ -1,9 +1,7 @@
-use Prim.Native.Nat.{◌<◌, ◌-◌}
+use Prim.Native.Nat.{◌<◌}
 use native.Mathlib.Omega.{arith}
-use Rattle.numbers.specs.Ops.{◌⊗◌}
-use Rattle.arrays.specs.Sums.{◌!◌}
 use Rattle.arrays.specs.Vectors.{map_of}
-use Rattle.arrays.proofs.Turns.{Made, made_none, array-more, array-all}
+use Rattle.arrays.proofs.Turns.{made_none, array-more, array-all}
 use Rattle.ending.specs.End.{rescaled_of}
 use Rattle.ending.proofs.Whole.{unwritten}
 use Rattle.ending.proofs.scale.Goals as goal

@@ -1,12 +1,8 @@
 -- `ending::scale` meets its contract. The invariant: the first i weights are scaled, and the others are as they were. The measure: p - i. Assumes nothing.
-use Prim.Native.Nat.{◌<◌, ◌-◌}
-use native.Mathlib.Omega.{arith}
+use Prim.Native.Nat.{◌-◌}
 use Rattle.numbers.specs.Ops.{◌⊗◌}
 use Rattle.arrays.specs.Sums.{◌!◌}
-use Rattle.arrays.specs.Vectors.{map_of}
-use Rattle.arrays.proofs.Turns.{Made, made_none, array-more, array-all}
-use Rattle.ending.specs.End.{rescaled_of}
-use Rattle.ending.proofs.Whole.{unwritten}
+use Rattle.arrays.proofs.Turns.{Made}
 use Rattle.ending.proofs.scale.Given as goal
 
 abbrev pub invariant-loop-i : goal.invariant-loop-i

@@ -1,5 +1,4 @@
 -- `ending::wipe` meets its contract. Assumes nothing.
-use native.Mathlib.Omega.{arith}
 use Rattle.ending.proofs.Whole.{wiped}
 use Rattle.ending.proofs.wipe.Goals as goal
 

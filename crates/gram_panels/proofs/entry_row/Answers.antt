@@ -1,11 +1,9 @@
 use mathlib.Core.Path.{◌≡◌}
-use Prim.Native.Nat.{◌+◌, ◌-◌, ◌≤◌}
+use Prim.Native.Nat.{◌+◌, ◌-◌}
 use native.Mathlib.Nat.{one-mul}
 use native.Mathlib.Omega.{arith}
-use Rattle.arrays.proofs.Turns.{Made}
 use Rattle.several.proofs.Added.{added_none}
 use Rattle.matrices.proofs.Lengths.{rows-room}
-use Rattle.gram_panels.specs.Panels.{sum_at}
 use Rattle.gram_panels.proofs.Sums.{sums-more}
 use Rattle.gram_panels.proofs.entry_row.Goals as goal
 

@@ -1,14 +1,8 @@
 -- `gram_panels::entry_row` meets its contract. The invariant: the w sums are those after i rows of the panels, and all else is as it was.
 -- The measure: nr - i, which falls by four. Assumes nothing.
-use mathlib.Core.Path.{◌≡◌}
-use Prim.Native.Nat.{◌+◌, ◌-◌, ◌≤◌}
-use native.Mathlib.Nat.{one-mul}
-use native.Mathlib.Omega.{arith}
+use Prim.Native.Nat.{◌-◌, ◌≤◌}
 use Rattle.arrays.proofs.Turns.{Made}
-use Rattle.several.proofs.Added.{added_none}
-use Rattle.matrices.proofs.Lengths.{rows-room}
 use Rattle.gram_panels.specs.Panels.{sum_at}
-use Rattle.gram_panels.proofs.Sums.{sums-more}
 use Rattle.gram_panels.proofs.entry_row.Given as goal
 
 abbrev pub invariant-loop-i : goal.invariant-loop-i

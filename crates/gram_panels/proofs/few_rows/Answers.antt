@@ -1,11 +1,9 @@
 use mathlib.Core.Path.{◌≡◌, ap, ◌∙◌}
-use Prim.Native.Nat.{ℕ, ◌-◌, ◌≤◌}
+use Prim.Native.Nat.{ℕ}
 use native.Mathlib.Omega.{arith}
 use Rattle.arrays.specs.Part.{put}
 use Rattle.arrays.specs.Sums.{◌!◌}
-use Rattle.arrays.proofs.Turns.{Made}
 use Rattle.several.proofs.Added.{added_none, added-one}
-use Rattle.gram_panels.specs.Panels.{sum_at}
 use Rattle.matrices.proofs.Lengths.{row_room}
 use Rattle.gram_panels.proofs.Sums.{sums-more}
 use Rattle.gram_panels.proofs.few_rows.Goals as goal

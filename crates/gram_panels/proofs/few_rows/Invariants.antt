@@ -1,15 +1,8 @@
 -- `gram_panels::few_rows` meets its contract. The invariant: the w sums are those after i rows of the panels, and all else is as it was.
 -- The measure: nr - i. Assumes nothing.
-use mathlib.Core.Path.{◌≡◌, ap, ◌∙◌}
-use Prim.Native.Nat.{ℕ, ◌-◌, ◌≤◌}
-use native.Mathlib.Omega.{arith}
-use Rattle.arrays.specs.Part.{put}
-use Rattle.arrays.specs.Sums.{◌!◌}
+use Prim.Native.Nat.{◌-◌, ◌≤◌}
 use Rattle.arrays.proofs.Turns.{Made}
-use Rattle.several.proofs.Added.{added_none, added-one}
 use Rattle.gram_panels.specs.Panels.{sum_at}
-use Rattle.matrices.proofs.Lengths.{row_room}
-use Rattle.gram_panels.proofs.Sums.{sums-more}
 use Rattle.gram_panels.proofs.few_rows.Given as goal
 
 abbrev pub invariant-loop-i : goal.invariant-loop-i

@@ -1,15 +1,8 @@
 -- `gram_panels::fill_panel` meets its contract. The invariant: the first i rows of the panel are written, and all else is as it was.
 -- The measure: nr - i. Assumes nothing.
-use mathlib.Core.Path.{◌≡◌, refl}
-use mathlib.Core.List.{List}
-use Prim.Native.Nat.{ℕ, ◌+◌, ◌-◌, ◌*◌, ◌<◌}
-use native.Mathlib.Nat.{add_assoc}
-use native.Mathlib.Omega.{arith}
-use lib.Ieee.{Float}
-use Rattle.arrays.specs.Part.{put, tab}
-use Rattle.gram_panels.specs.Panels.{same, norm_at, cell, panel_at, Fill}
-use Rattle.matrices.proofs.Lengths.{row_room}
-use Rattle.gram_panels.proofs.Mats.{Striped, striped-none, striped-more, striped-all, before-rows}
+use Prim.Native.Nat.{◌-◌}
+use Rattle.gram_panels.specs.Panels.{same, panel_at}
+use Rattle.gram_panels.proofs.Mats.{Striped}
 use Rattle.gram_panels.proofs.fill_panel.Given as goal
 
 abbrev pub invariant-loop-i : goal.invariant-loop-i

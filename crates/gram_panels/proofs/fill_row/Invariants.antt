@@ -1,15 +1,7 @@
 -- `gram_panels::fill_row` meets its contract. The invariant: the first b entries of the row, normalised, are written, and all else is as it was.
 -- The measure: n - b. Assumes nothing.
-use mathlib.Core.Path.{◌≡◌}
-use mathlib.Core.List.{List}
-use Prim.Native.Nat.{ℕ, ◌+◌, ◌-◌, ◌≤◌, ◌<◌}
-use native.Mathlib.Omega.{arith}
-use lib.ListN.{set}
-use lib.Ieee.{Float, nan}
-use Rattle.arrays.specs.Part.{tab}
-use Rattle.arrays.proofs.Part.{get_or-put-above}
-use Rattle.arrays.specs.Sums.{◌!◌}
-use Rattle.arrays.proofs.Turns.{Made, made_none, made_more, made_all}
+use Prim.Native.Nat.{◌-◌}
+use Rattle.arrays.proofs.Turns.{Made}
 use Rattle.gram_panels.specs.Panels.{norm_at}
 use Rattle.gram_panels.proofs.fill_row.Given as goal
 

@@ -3,8 +3,7 @@ use Prim.Native.Nat.{ℕ, suc, ◌+◌, ◌-◌, ◌*◌, ◌≤◌, ◌<◌}
 use native.Mathlib.Nat.{mul-add, mul-one, suc-mul, add-mul}
 use native.Mathlib.Omega.{arith}
 use Rattle.matrices.proofs.Lengths.{row_room}
-use Rattle.gram_panels.proofs.Mats.{Striped, striped-none, striped-more, striped-all, beyond-rows}
-use Rattle.gram_panels.specs.Panels.{right_of, from_below}
+use Rattle.gram_panels.proofs.Mats.{striped-none, striped-more, striped-all, beyond-rows}
 use Rattle.gram_panels.proofs.mirror.Goals as goal
 
 fits : (k p : ℕ) → k < p → (k * (p + 1) + (p + 1) ≤ p * p + p) × (p ≤ p * p)

@@ -1,11 +1,7 @@
 -- `gram_panels::mirror` meets its contract. The invariant: the first k rows are mirrored to the right of the diagonal, and all else is as it was.
 -- The measure: p - k. Assumes nothing.
-use mathlib.Core.Path.{◌≡◌, refl, sym, ap, ◌∙◌}
-use Prim.Native.Nat.{ℕ, suc, ◌+◌, ◌-◌, ◌*◌, ◌≤◌, ◌<◌}
-use native.Mathlib.Nat.{mul-add, mul-one, suc-mul, add-mul}
-use native.Mathlib.Omega.{arith}
-use Rattle.matrices.proofs.Lengths.{row_room}
-use Rattle.gram_panels.proofs.Mats.{Striped, striped-none, striped-more, striped-all, beyond-rows}
+use Prim.Native.Nat.{◌+◌, ◌-◌}
+use Rattle.gram_panels.proofs.Mats.{Striped}
 use Rattle.gram_panels.specs.Panels.{right_of, from_below}
 use Rattle.gram_panels.proofs.mirror.Given as goal
 

@@ -1,14 +1,7 @@
 -- `gram_panels::mirror_row` meets its contract. The invariant: the first b elements of the column are copied into the row, and all else is as it was.
 -- The measure: n - b. Assumes nothing.
-use mathlib.Core.List.{List}
-use Prim.Native.Nat.{ℕ, ◌+◌, ◌-◌, ◌*◌, ◌≤◌, ◌<◌}
-use native.Mathlib.Omega.{arith}
-use lib.ListN.{set}
-use lib.Ieee.{Float, nan}
-use Rattle.arrays.specs.Part.{tab}
-use Rattle.arrays.proofs.Part.{length-tab, get_or-put-below}
-use Rattle.arrays.proofs.Turns.{Made, made_none, made_more, made_all}
-use Rattle.matrices.proofs.Lengths.{row_room}
+use Prim.Native.Nat.{◌-◌}
+use Rattle.arrays.proofs.Turns.{Made}
 use Rattle.gram_panels.specs.Panels.{across}
 use Rattle.gram_panels.proofs.mirror_row.Given as goal
 

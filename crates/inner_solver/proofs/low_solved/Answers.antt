@@ -1,10 +1,7 @@
-use Prim.Native.Nat.{◌*◌, ◌-◌}
 use native.Mathlib.Omega.{arith}
 use lib.Ieee.{Float}
 use Rattle.numbers.specs.Ops.{◌⊖◌, ◌⊗◌, ◌⊘◌}
-use Rattle.arrays.specs.Part.{part}
-use Rattle.arrays.proofs.Turns.{Made, made_none, made_all}
-use Rattle.inner_solver.specs.Inner.{low_solved}
+use Rattle.arrays.proofs.Turns.{made_none, made_all}
 use Rattle.inner_solver.proofs.Loops.{reads_more}
 use Rattle.inner_solver.proofs.low_solved.Goals as goal
 

@@ -1,13 +1,9 @@
 -- `inner_solver::low_solved` meets its contract. The invariant: the first i elements of the lower half are written, and all else is as it was.
 -- The measure: p - i. Assumes nothing.
 use Prim.Native.Nat.{◌*◌, ◌-◌}
-use native.Mathlib.Omega.{arith}
-use lib.Ieee.{Float}
-use Rattle.numbers.specs.Ops.{◌⊖◌, ◌⊗◌, ◌⊘◌}
 use Rattle.arrays.specs.Part.{part}
-use Rattle.arrays.proofs.Turns.{Made, made_none, made_all}
+use Rattle.arrays.proofs.Turns.{Made}
 use Rattle.inner_solver.specs.Inner.{low_solved}
-use Rattle.inner_solver.proofs.Loops.{reads_more}
 use Rattle.inner_solver.proofs.low_solved.Given as goal
 
 abbrev pub invariant-loop-i : goal.invariant-loop-i

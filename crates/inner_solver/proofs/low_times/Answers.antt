@@ -1,11 +1,8 @@
-use Prim.Native.Nat.{◌*◌, ◌-◌}
 use native.Mathlib.Omega.{arith}
 use lib.Ieee.{Float}
 use Rattle.numbers.specs.Ops.{◌⊕◌, ◌⊗◌}
 use Rattle.numbers.specs.Constants.{two}
-use Rattle.arrays.specs.Part.{part}
-use Rattle.arrays.proofs.Turns.{Made, made_none, made_all}
-use Rattle.inner_solver.specs.Inner.{low_times}
+use Rattle.arrays.proofs.Turns.{made_none, made_all}
 use Rattle.inner_solver.proofs.Loops.{reads_more}
 use Rattle.inner_solver.proofs.low_times.Goals as goal
 

@@ -1,5 +1,4 @@
 -- `inner_solver::precondition` meets its contract. Assumes nothing.
-use native.Mathlib.Omega.{arith}
 use Rattle.inner_solver.proofs.Joins.{solved-joined}
 use Rattle.inner_solver.proofs.precondition.Goals as goal
 

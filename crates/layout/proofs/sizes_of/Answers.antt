@@ -1,5 +1,4 @@
 -- `layout::sizes_of` meets its contract. Assumes nothing.
-use native.Mathlib.Omega.{arith}
 use Rattle.layout.specs.Need.{sizes_of}
 use Rattle.layout.proofs.sizes_of.Goals as goal
 

@@ -1,15 +1,11 @@
 -- `lazy_columns::add_four` meets its contract. The outer invariant: the first j sums have their four products, and all else is as it was; the inner: t is
 -- sum j with its first k products. The measures: p - j and 4 - k. Assumes nothing.
 use Prim.Native.Nat.{◌+◌, ◌-◌, ◌*◌, ◌≤◌}
-use mathlib.Core.Path.{◌≡◌, refl, sym, ap, ◌∙◌}
-use native.Mathlib.Omega.{arith}
+use mathlib.Core.Path.{◌≡◌}
 use Rattle.numbers.specs.Ops.{◌⊖◌, ◌⊗◌}
-use Rattle.arrays.specs.Part.{put}
 use Rattle.arrays.specs.Sums.{◌!◌, products}
-use Rattle.arrays.proofs.Folds.{fold-none, fold-turn}
-use Rattle.several.proofs.Several.{few}
-use Rattle.arrays.proofs.Turns.{Made, made_none, made_all}
-use Rattle.lazy_columns.proofs.ColumnSums.{four_sum, four-more, four-all}
+use Rattle.arrays.proofs.Turns.{Made}
+use Rattle.lazy_columns.proofs.ColumnSums.{four_sum}
 use Rattle.lazy_columns.proofs.add_four.Given as goal
 
 abbrev pub invariant-loop-k : goal.invariant-loop-k

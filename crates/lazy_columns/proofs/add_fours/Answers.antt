@@ -1,12 +1,12 @@
-use Prim.Native.Nat.{◌+◌, ◌-◌, ◌*◌, ◌/◌, ◌≤◌}
+use Prim.Native.Nat.{◌+◌, ◌*◌, ◌/◌, ◌≤◌}
 use mathlib.Core.Path.{◌≡◌, sym, ◌∙◌}
 use native.Mathlib.Nat.{add-mul, mul-le-mul_right}
 use native.Mathlib.Omega.{arith}
 use Rattle.arrays.proofs.Scans.{denied, granted}
-use Rattle.arrays.proofs.Turns.{Made, made_all}
+use Rattle.arrays.proofs.Turns.{made_all}
 use Rattle.lazy_normalization.proofs.Entries.{while-made}
 use Rattle.lazy_columns.specs.ColumnSums.{lazy_added}
-use Rattle.lazy_columns.proofs.ColumnSums.{column_sum, sums_none, columns-four}
+use Rattle.lazy_columns.proofs.ColumnSums.{sums_none, columns-four}
 use Rattle.lazy_columns.proofs.add_fours.Goals as goal
 
 pub returns-then-not-all_there : goal.returns-then-not-all_there

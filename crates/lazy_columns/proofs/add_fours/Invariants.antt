@@ -1,13 +1,7 @@
 -- `lazy_columns::add_fours` meets its contract. The invariant: the sums have the first 4 * i rows. The measure: n / 4 - i. Assumes nothing.
-use Prim.Native.Nat.{◌+◌, ◌-◌, ◌*◌, ◌/◌, ◌≤◌}
-use mathlib.Core.Path.{◌≡◌, sym, ◌∙◌}
-use native.Mathlib.Nat.{add-mul, mul-le-mul_right}
-use native.Mathlib.Omega.{arith}
-use Rattle.arrays.proofs.Scans.{denied, granted}
-use Rattle.arrays.proofs.Turns.{Made, made_all}
-use Rattle.lazy_normalization.proofs.Entries.{while-made}
-use Rattle.lazy_columns.specs.ColumnSums.{lazy_added}
-use Rattle.lazy_columns.proofs.ColumnSums.{column_sum, sums_none, columns-four}
+use Prim.Native.Nat.{◌+◌, ◌-◌, ◌*◌, ◌≤◌}
+use Rattle.arrays.proofs.Turns.{Made}
+use Rattle.lazy_columns.proofs.ColumnSums.{column_sum}
 use Rattle.lazy_columns.proofs.add_fours.Given as goal
 
 abbrev pub invariant-loop-i : goal.invariant-loop-i

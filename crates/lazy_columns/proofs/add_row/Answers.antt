@@ -1,10 +1,5 @@
-use Prim.Native.Nat.{◌-◌}
 use native.Mathlib.Omega.{arith}
-use Rattle.numbers.specs.Ops.{◌⊕◌, ◌⊗◌}
-use Rattle.arrays.specs.Part.{part}
-use Rattle.arrays.specs.Sums.{◌!◌}
-use Rattle.arrays.proofs.Turns.{Made, made_none, made_all}
-use Rattle.lazy_normalization.proofs.Entries.{row_of}
+use Rattle.arrays.proofs.Turns.{made_none, made_all}
 use Rattle.lazy_columns.proofs.ColumnSums.{add-more}
 use Rattle.lazy_columns.proofs.add_row.Goals as goal
 

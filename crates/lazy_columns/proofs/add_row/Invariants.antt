@@ -1,13 +1,11 @@
 -- `lazy_columns::add_row` meets its contract. The invariant: the first j sums have the row's product added, and all else is as it was.
 -- The measure: p - j. Assumes nothing.
 use Prim.Native.Nat.{◌-◌}
-use native.Mathlib.Omega.{arith}
 use Rattle.numbers.specs.Ops.{◌⊕◌, ◌⊗◌}
 use Rattle.arrays.specs.Part.{part}
 use Rattle.arrays.specs.Sums.{◌!◌}
-use Rattle.arrays.proofs.Turns.{Made, made_none, made_all}
+use Rattle.arrays.proofs.Turns.{Made}
 use Rattle.lazy_normalization.proofs.Entries.{row_of}
-use Rattle.lazy_columns.proofs.ColumnSums.{add-more}
 use Rattle.lazy_columns.proofs.add_row.Given as goal
 
 abbrev pub invariant-loop-j : goal.invariant-loop-j

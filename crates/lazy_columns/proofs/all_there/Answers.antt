@@ -1,11 +1,8 @@
-use Prim.Native.Nat.{◌-◌, ◌≤◌}
 use mathlib.Core.Path.{◌≡◌, ap, ◌∙◌}
 use native.Mathlib.Omega.{arith}
 use lib.Ieee.{Float, nan, eq}
-use Rattle.arrays.specs.Part.{part}
 use Rattle.arrays.proofs.Part.{get_or-part}
 use Rattle.arrays.specs.Sums.{plus0}
-use Rattle.lazy_columns.specs.ColumnSums.{all_there}
 use Rattle.lazy_columns.proofs.There.{none_yet, one-missing, one-there}
 use Rattle.lazy_columns.proofs.all_there.Goals as goal
 use Rattle.lazy_columns.proofs.all_there.Goals.{then-s-rc, else-s-rc}

@@ -1,13 +1,10 @@
 -- `lazy_columns::augment` meets its contract. The invariant: the first j sums are augmented, and all else is as it was.
 -- The measure: p - j. Assumes nothing.
 use Prim.Native.Nat.{◌-◌}
-use native.Mathlib.Omega.{arith}
-use lib.Ieee.{Float}
 use Rattle.numbers.specs.Ops.{◌⊕◌, ◌⊗◌}
 use Rattle.arrays.specs.Part.{part}
 use Rattle.arrays.specs.Sums.{◌!◌}
-use Rattle.arrays.specs.Vectors.{zip_of}
-use Rattle.arrays.proofs.Turns.{Made, made_none, zip_more, made_all}
+use Rattle.arrays.proofs.Turns.{Made}
 use Rattle.lazy_columns.proofs.augment.Given as goal
 
 abbrev pub invariant-loop-j : goal.invariant-loop-j

@@ -1,13 +1,12 @@
-use Prim.Native.Nat.{ℕ, ◌+◌, ◌-◌, ◌*◌, ◌/◌, ◌≤◌}
+use Prim.Native.Nat.{ℕ, ◌+◌, ◌*◌, ◌/◌, ◌≤◌}
 use mathlib.Core.Path.{◌≡◌, refl}
 use mathlib.Core.Bool.{Bool, true, false, cond}
 use mathlib.Core.List.{List}
 use native.Mathlib.Nat.{mul-le-mul_right}
 use native.Mathlib.Omega.{arith}
-use lib.ListN.{length}
 use lib.Ieee.{Float}
 use Rattle.arrays.specs.Part.{part}
-use Rattle.arrays.proofs.Turns.{Made, made_of}
+use Rattle.arrays.proofs.Turns.{made_of}
 use Rattle.matrices.proofs.Lengths.{row_room, next_row}
 use Rattle.lazy_normalization.proofs.Entries.{reads_on}
 use Rattle.lazy_columns.specs.ColumnSums.{lazy_added, all_there}

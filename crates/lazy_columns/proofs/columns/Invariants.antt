@@ -1,19 +1,12 @@
 -- `lazy_columns::columns` meets its contract. The invariant: row i begins at `at`, and over whatever b the fours' sums were written to the sums of the first
 -- i rows now are. The measure: n - i. Assumes nothing.
-use Prim.Native.Nat.{ℕ, ◌+◌, ◌-◌, ◌*◌, ◌/◌, ◌≤◌}
-use mathlib.Core.Path.{◌≡◌, refl}
-use mathlib.Core.Bool.{Bool, true, false, cond}
+use Prim.Native.Nat.{◌+◌, ◌-◌, ◌*◌, ◌≤◌}
+use mathlib.Core.Path.{◌≡◌}
 use mathlib.Core.List.{List}
-use native.Mathlib.Nat.{mul-le-mul_right}
-use native.Mathlib.Omega.{arith}
 use lib.ListN.{length}
 use lib.Ieee.{Float}
-use Rattle.arrays.specs.Part.{part}
-use Rattle.arrays.proofs.Turns.{Made, made_of}
-use Rattle.matrices.proofs.Lengths.{row_room, next_row}
-use Rattle.lazy_normalization.proofs.Entries.{reads_on}
-use Rattle.lazy_columns.specs.ColumnSums.{lazy_added, all_there}
-use Rattle.lazy_columns.proofs.ColumnSums.{column_sum, columns-more, columns-all, columns-end}
+use Rattle.arrays.proofs.Turns.{Made}
+use Rattle.lazy_columns.proofs.ColumnSums.{column_sum}
 use Rattle.lazy_columns.proofs.columns.Given as goal
 
 abbrev pub invariant-loop-i : goal.invariant-loop-i

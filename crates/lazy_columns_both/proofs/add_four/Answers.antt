@@ -1,13 +1,11 @@
-use Prim.Native.Nat.{◌+◌, ◌-◌, ◌*◌, ◌≤◌}
+use Prim.Native.Nat.{◌*◌, ◌≤◌}
 use mathlib.Core.Path.{◌≡◌, refl, sym, ap, ◌∙◌}
 use native.Mathlib.Omega.{arith}
-use Rattle.numbers.specs.Ops.{◌⊖◌, ◌⊗◌}
 use Rattle.arrays.specs.Part.{put}
-use Rattle.arrays.specs.Sums.{◌!◌, products}
 use Rattle.arrays.proofs.Folds.{fold-none, fold-turn}
 use Rattle.several.proofs.Several.{few}
-use Rattle.arrays.proofs.Turns.{Made, made_none, made_all}
-use Rattle.lazy_columns.proofs.ColumnSums.{four_sum, four-more, four-first, four-all}
+use Rattle.arrays.proofs.Turns.{made_none, made_all}
+use Rattle.lazy_columns.proofs.ColumnSums.{four-more, four-first, four-all}
 use Rattle.lazy_columns_both.proofs.add_four.Goals as goal
 
 pub loop-j-init : goal.loop-j-init

@@ -1,11 +1,11 @@
-use Prim.Native.Nat.{◌+◌, ◌-◌, ◌*◌, ◌/◌, ◌≤◌}
+use Prim.Native.Nat.{◌+◌, ◌*◌, ◌/◌, ◌≤◌}
 use mathlib.Core.Path.{◌≡◌}
 use native.Mathlib.Nat.{add-mul, mul-le-mul_right}
 use native.Mathlib.Omega.{arith}
-use Rattle.arrays.proofs.Turns.{Made, made_all}
+use Rattle.arrays.proofs.Turns.{made_all}
 use Rattle.lazy_normalization.proofs.Entries.{while-made}
 use Rattle.lazy_columns.specs.ColumnSums.{lazy_added}
-use Rattle.lazy_columns.proofs.ColumnSums.{summed, sums_none, sums_on, four-read}
+use Rattle.lazy_columns.proofs.ColumnSums.{sums_none, sums_on, four-read}
 use Rattle.lazy_columns_both.proofs.add_fours.Goals as goal
 
 pub loop-i-init : goal.loop-i-init

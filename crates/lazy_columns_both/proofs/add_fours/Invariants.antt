@@ -1,12 +1,7 @@
 -- `lazy_columns_both::add_fours` meets its contract. The invariant: both sums have the first 4 * i rows. The measure: n / 4 - i. Assumes nothing.
-use Prim.Native.Nat.{◌+◌, ◌-◌, ◌*◌, ◌/◌, ◌≤◌}
-use mathlib.Core.Path.{◌≡◌}
-use native.Mathlib.Nat.{add-mul, mul-le-mul_right}
-use native.Mathlib.Omega.{arith}
-use Rattle.arrays.proofs.Turns.{Made, made_all}
-use Rattle.lazy_normalization.proofs.Entries.{while-made}
-use Rattle.lazy_columns.specs.ColumnSums.{lazy_added}
-use Rattle.lazy_columns.proofs.ColumnSums.{summed, sums_none, sums_on, four-read}
+use Prim.Native.Nat.{◌+◌, ◌-◌, ◌*◌, ◌≤◌}
+use Rattle.arrays.proofs.Turns.{Made}
+use Rattle.lazy_columns.proofs.ColumnSums.{summed}
 use Rattle.lazy_columns_both.proofs.add_fours.Given as goal
 
 abbrev pub invariant-loop-i : goal.invariant-loop-i

@@ -1,13 +1,13 @@
-use Prim.Native.Nat.{ℕ, ◌+◌, ◌-◌, ◌*◌, ◌/◌, ◌≤◌}
+use Prim.Native.Nat.{ℕ, ◌+◌, ◌-◌, ◌*◌, ◌/◌}
 use mathlib.Core.Path.{◌≡◌, sym, ap}
 use native.Mathlib.Omega.{arith}
 use Rattle.arrays.specs.Sums.{◌!◌}
-use Rattle.arrays.proofs.Turns.{Made, made_all}
+use Rattle.arrays.proofs.Turns.{made_all}
 use Rattle.matrices.proofs.Lengths.{row_room}
 use Rattle.lazy_normalization.proofs.Entries.{while-made}
 use Rattle.lazy_columns.proofs.ColumnSums.{sums_none}
 use Rattle.lazy_columns_both.specs.Both.{added_from}
-use Rattle.lazy_columns_both.proofs.Both.{from_row, from_more}
+use Rattle.lazy_columns_both.proofs.Both.{from_more}
 use Rattle.lazy_columns_both.proofs.add_rest.Goals as goal
 
 pub loop-i-init : goal.loop-i-init

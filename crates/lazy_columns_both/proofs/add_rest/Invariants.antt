@@ -1,14 +1,7 @@
 -- `lazy_columns_both::add_rest` meets its contract. The invariant: both sums have the rows before row i. The measure: n - i. Assumes nothing.
-use Prim.Native.Nat.{ℕ, ◌+◌, ◌-◌, ◌*◌, ◌/◌, ◌≤◌}
-use mathlib.Core.Path.{◌≡◌, sym, ap}
-use native.Mathlib.Omega.{arith}
-use Rattle.arrays.specs.Sums.{◌!◌}
-use Rattle.arrays.proofs.Turns.{Made, made_all}
-use Rattle.matrices.proofs.Lengths.{row_room}
-use Rattle.lazy_normalization.proofs.Entries.{while-made}
-use Rattle.lazy_columns.proofs.ColumnSums.{sums_none}
-use Rattle.lazy_columns_both.specs.Both.{added_from}
-use Rattle.lazy_columns_both.proofs.Both.{from_row, from_more}
+use Prim.Native.Nat.{◌-◌, ◌≤◌}
+use Rattle.arrays.proofs.Turns.{Made}
+use Rattle.lazy_columns_both.proofs.Both.{from_row}
 use Rattle.lazy_columns_both.proofs.add_rest.Given as goal
 
 abbrev pub invariant-loop-i : goal.invariant-loop-i

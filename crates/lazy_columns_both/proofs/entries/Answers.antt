@@ -1,10 +1,8 @@
-use Prim.Native.Nat.{◌-◌}
 use native.Mathlib.Omega.{arith}
 use Rattle.arrays.specs.Part.{tab}
 use Rattle.arrays.proofs.Part.{get_or-part}
 use Rattle.arrays.specs.Vectors.{fill_of}
-use Rattle.arrays.proofs.Turns.{Made, made_none, array-more, made_all}
-use Rattle.lazy_normalization.proofs.Entries.{row_of}
+use Rattle.arrays.proofs.Turns.{made_none, array-more, made_all}
 use lib.Ieee.{nan}
 use Rattle.lazy_columns_both.proofs.entries.Goals as goal
 

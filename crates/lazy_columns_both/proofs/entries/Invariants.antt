@@ -1,12 +1,7 @@
 -- `lazy_columns_both::entries` meets its contract. The invariant: the first j entries are written. The measure: p - j. Assumes nothing.
 use Prim.Native.Nat.{◌-◌}
-use native.Mathlib.Omega.{arith}
-use Rattle.arrays.specs.Part.{tab}
-use Rattle.arrays.proofs.Part.{get_or-part}
-use Rattle.arrays.specs.Vectors.{fill_of}
-use Rattle.arrays.proofs.Turns.{Made, made_none, array-more, made_all}
+use Rattle.arrays.proofs.Turns.{Made}
 use Rattle.lazy_normalization.proofs.Entries.{row_of}
-use lib.Ieee.{nan}
 use Rattle.lazy_columns_both.proofs.entries.Given as goal
 
 abbrev pub invariant-loop-j : goal.invariant-loop-j

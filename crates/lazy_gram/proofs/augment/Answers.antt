@@ -1,10 +1,8 @@
 use mathlib.Core.Path.{refl}
-use Prim.Native.Nat.{◌+◌, ◌-◌, ◌*◌}
+use Prim.Native.Nat.{◌+◌, ◌*◌}
 use native.Mathlib.Omega.{arith}
-use Rattle.gram_panels.specs.Panels.{low}
 use Rattle.matrices.proofs.Lengths.{row_room}
-use Rattle.gram_panels.proofs.Mats.{Striped, striped-none, striped-more, striped-all, beyond-rows}
-use Rattle.lazy_gram.specs.Nest.{raised_at}
+use Rattle.gram_panels.proofs.Mats.{striped-none, striped-more, striped-all, beyond-rows}
 use Rattle.lazy_gram.proofs.augment.Goals as goal
 
 pub loop-j-init : goal.loop-j-init

@@ -1,11 +1,8 @@
 -- `lazy_gram::augment` meets its contract. The invariant: the first j rows of the lower triangle are augmented, and all else is as it was.
 -- The measure: p - j. Assumes nothing.
-use mathlib.Core.Path.{refl}
 use Prim.Native.Nat.{◌+◌, ◌-◌, ◌*◌}
-use native.Mathlib.Omega.{arith}
 use Rattle.gram_panels.specs.Panels.{low}
-use Rattle.matrices.proofs.Lengths.{row_room}
-use Rattle.gram_panels.proofs.Mats.{Striped, striped-none, striped-more, striped-all, beyond-rows}
+use Rattle.gram_panels.proofs.Mats.{Striped}
 use Rattle.lazy_gram.specs.Nest.{raised_at}
 use Rattle.lazy_gram.proofs.augment.Given as goal
 

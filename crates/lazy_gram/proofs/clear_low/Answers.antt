@@ -1,12 +1,9 @@
 use mathlib.Core.Path.{refl}
-use Prim.Native.Nat.{◌-◌}
 use native.Mathlib.Omega.{arith}
 use Rattle.arrays.specs.Sums.{plus0}
 use Rattle.arrays.specs.Vectors.{fill_of}
-use Rattle.gram_panels.specs.Panels.{low}
 use Rattle.matrices.proofs.Lengths.{row_room}
-use Rattle.gram_panels.proofs.Mats.{Striped, striped-none, striped-more, striped-all}
-use Rattle.lazy_gram.specs.Nest.{nones}
+use Rattle.gram_panels.proofs.Mats.{striped-none, striped-more, striped-all}
 use Rattle.lazy_gram.proofs.clear_low.Goals as goal
 
 pub loop-j-init : goal.loop-j-init

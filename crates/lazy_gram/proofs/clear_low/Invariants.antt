@@ -1,13 +1,8 @@
 -- `lazy_gram::clear_low` meets its contract. The invariant: the first j rows of the lower triangle are +0, and all else is as it was.
 -- The measure: p - j. Assumes nothing.
-use mathlib.Core.Path.{refl}
 use Prim.Native.Nat.{◌-◌}
-use native.Mathlib.Omega.{arith}
-use Rattle.arrays.specs.Sums.{plus0}
-use Rattle.arrays.specs.Vectors.{fill_of}
 use Rattle.gram_panels.specs.Panels.{low}
-use Rattle.matrices.proofs.Lengths.{row_room}
-use Rattle.gram_panels.proofs.Mats.{Striped, striped-none, striped-more, striped-all}
+use Rattle.gram_panels.proofs.Mats.{Striped}
 use Rattle.lazy_gram.specs.Nest.{nones}
 use Rattle.lazy_gram.proofs.clear_low.Given as goal
 

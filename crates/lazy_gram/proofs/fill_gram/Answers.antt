@@ -1,6 +1,5 @@
 -- `lazy_gram::fill_gram` meets its contract: cleared sums start from +0, and the sweep changes nothing. Assumes nothing.
 use mathlib.Core.Path.{◌∙◌}
-use native.Mathlib.Omega.{arith}
 use Rattle.lazy_gram.proofs.Whole.{gram-rows, gram-clear, gram-done}
 use Rattle.lazy_gram.proofs.fill_gram.Goals as goal
 

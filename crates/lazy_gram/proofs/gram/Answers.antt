@@ -1,5 +1,4 @@
 -- `lazy_gram::gram` meets its contract: the last `fill` covers just the panels, where `fill_gram` promises nothing. Assumes nothing.
-use native.Mathlib.Omega.{arith}
 use Rattle.arrays.proofs.Part.{length-put}
 use Rattle.lazy_gram.proofs.Whole.{lent_rows, lent-order, lent-fill, lent-done}
 use Rattle.lazy_gram.proofs.gram.Goals as goal

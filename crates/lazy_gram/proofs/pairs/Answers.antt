@@ -1,11 +1,8 @@
 use mathlib.Core.Path.{◌≡◌, refl, ◌∙◌}
-use Prim.Native.Nat.{◌+◌, ◌-◌, ◌*◌, ◌≤◌}
+use Prim.Native.Nat.{◌*◌}
 use native.Mathlib.Omega.{arith}
-use lib.ListN.{length}
-use Rattle.gram_panels.specs.Panels.{same}
 use Rattle.matrices.proofs.Lengths.{row_room, rows-room}
 use Rattle.gram_panels.proofs.Mats.{length-mat}
-use Rattle.lazy_gram.specs.Nest.{Like, advanced}
 use Rattle.lazy_gram.proofs.Nest.{pairs_start, pairs-block, pairs-turn}
 use Rattle.lazy_gram.proofs.pairs.Goals as goal
 

@@ -1,14 +1,10 @@
 -- `lazy_gram::pairs` meets its contract. The invariant: but for the right panel, the sums of the first kb * cc columns are advanced, and all else is as it was.
 -- The measure: jb - kb. Assumes nothing.
-use mathlib.Core.Path.{◌≡◌, refl, ◌∙◌}
+use mathlib.Core.Path.{◌≡◌}
 use Prim.Native.Nat.{◌+◌, ◌-◌, ◌*◌, ◌≤◌}
-use native.Mathlib.Omega.{arith}
 use lib.ListN.{length}
 use Rattle.gram_panels.specs.Panels.{same}
-use Rattle.matrices.proofs.Lengths.{row_room, rows-room}
-use Rattle.gram_panels.proofs.Mats.{length-mat}
 use Rattle.lazy_gram.specs.Nest.{Like, advanced}
-use Rattle.lazy_gram.proofs.Nest.{pairs_start, pairs-block, pairs-turn}
 use Rattle.lazy_gram.proofs.pairs.Given as goal
 
 abbrev pub invariant-loop-kb : goal.invariant-loop-kb

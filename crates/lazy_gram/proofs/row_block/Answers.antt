@@ -1,12 +1,10 @@
 use mathlib.Core.Path.{◌≡◌, refl, sym, ◌∙◌}
-use Prim.Native.Nat.{◌+◌, ◌-◌, ◌*◌, ◌≤◌}
+use Prim.Native.Nat.{◌+◌, ◌*◌}
 use native.Mathlib.Nat.{zero-mul, suc-mul}
 use native.Mathlib.Numerals.{add-one}
 use native.Mathlib.Omega.{arith}
-use lib.ListN.{length}
 use Rattle.gram_panels.specs.Panels.{least}
 use Rattle.gram_panels.proofs.Mats.{length-mat}
-use Rattle.lazy_gram.specs.Nest.{Like, advanced_low}
 use Rattle.lazy_gram.proofs.Nest.{block_start, block-turn}
 use Rattle.lazy_gram.proofs.row_block.Goals as goal
 

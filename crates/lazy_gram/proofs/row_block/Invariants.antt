@@ -1,15 +1,10 @@
 -- `lazy_gram::row_block` meets its contract. The invariant: j is jb * cc and, but for the panels, the Gram's first j rows are advanced, all else as it was.
 -- The measure: p - j. Assumes nothing.
-use mathlib.Core.Path.{◌≡◌, refl, sym, ◌∙◌}
+use mathlib.Core.Path.{◌≡◌}
 use Prim.Native.Nat.{◌+◌, ◌-◌, ◌*◌, ◌≤◌}
-use native.Mathlib.Nat.{zero-mul, suc-mul}
-use native.Mathlib.Numerals.{add-one}
-use native.Mathlib.Omega.{arith}
 use lib.ListN.{length}
 use Rattle.gram_panels.specs.Panels.{least}
-use Rattle.gram_panels.proofs.Mats.{length-mat}
 use Rattle.lazy_gram.specs.Nest.{Like, advanced_low}
-use Rattle.lazy_gram.proofs.Nest.{block_start, block-turn}
 use Rattle.lazy_gram.proofs.row_block.Given as goal
 
 abbrev pub invariant-loop-j : goal.invariant-loop-j

@@ -1,11 +1,8 @@
 use mathlib.Core.Path.{◌≡◌, refl, ◌∙◌}
-use Prim.Native.Nat.{◌+◌, ◌-◌, ◌*◌, ◌≤◌}
+use Prim.Native.Nat.{◌+◌, ◌*◌, ◌≤◌}
 use native.Mathlib.Nat.{mul-le-mul_right}
 use native.Mathlib.Omega.{arith}
-use lib.ListN.{length}
-use Rattle.gram_panels.specs.Panels.{mat, cell, low}
 use Rattle.gram_panels.proofs.Mats.{length-mat}
-use Rattle.lazy_gram.specs.Nest.{Like, entry}
 use Rattle.lazy_gram.proofs.Nest.{rows_start, rows_lie, rows-turn}
 use Rattle.lazy_gram.proofs.rows.Goals as goal
 

@@ -1,14 +1,10 @@
 -- `lazy_gram::rows` meets its contract. The invariant: but for the panels, the sums are those over the first `row` rows, and all else is as it was.
 -- The measure: n - row. Assumes nothing.
-use mathlib.Core.Path.{◌≡◌, refl, ◌∙◌}
+use mathlib.Core.Path.{◌≡◌}
 use Prim.Native.Nat.{◌+◌, ◌-◌, ◌*◌, ◌≤◌}
-use native.Mathlib.Nat.{mul-le-mul_right}
-use native.Mathlib.Omega.{arith}
 use lib.ListN.{length}
 use Rattle.gram_panels.specs.Panels.{mat, cell, low}
-use Rattle.gram_panels.proofs.Mats.{length-mat}
 use Rattle.lazy_gram.specs.Nest.{Like, entry}
-use Rattle.lazy_gram.proofs.Nest.{rows_start, rows_lie, rows-turn}
 use Rattle.lazy_gram.proofs.rows.Given as goal
 
 abbrev pub invariant-loop-row : goal.invariant-loop-row

@@ -1,7 +1,6 @@
 -- `lazy_normalization::is_normal` meets its contract. Assumes nothing.
 use mathlib.Core.Path.{ap, ◌∙◌}
 use mathlib.Core.Bool.{true, false}
-use borrow.Author.Rules.{rules}
 use lib.Ieee.{lt}
 use Rattle.lazy_normalization.proofs.Choice.{infinity, normal-is}
 use Rattle.lazy_normalization.proofs.is_normal.Goals as goal

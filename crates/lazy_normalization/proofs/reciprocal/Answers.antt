@@ -1,7 +1,6 @@
 -- `lazy_normalization::reciprocal` meets its contract. Assumes nothing.
 use mathlib.Core.Path.{◌∙◌, sym, refl}
 use mathlib.Core.Bool.{true, false}
-use borrow.Author.Rules.{rules}
 use Rattle.lazy_normalization.proofs.Choice.{reciprocal_is}
 use Rattle.lazy_normalization.proofs.reciprocal.Goals as goal
 

@@ -1,10 +1,9 @@
-use Prim.Native.Nat.{◌-◌}
 use mathlib.Core.Path.{ap, ◌∙◌}
 use native.Mathlib.Omega.{arith}
-use Rattle.arrays.specs.Part.{part, tab}
+use Rattle.arrays.specs.Part.{tab}
 use Rattle.arrays.proofs.Part.{length-tab}
 use Rattle.arrays.specs.Sums.{◌!◌}
-use Rattle.arrays.proofs.Turns.{Made, made_none, made_more, kept, made_all}
+use Rattle.arrays.proofs.Turns.{made_none, made_more, kept, made_all}
 use Rattle.layout.specs.Slots.{words}
 use Rattle.layout.proofs.Slots.{start, then}
 use Rattle.layout.specs.Slots.{Slot.SCALE, Slot.RECIP}

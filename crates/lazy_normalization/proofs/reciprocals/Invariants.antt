@@ -1,16 +1,10 @@
 -- `lazy_normalization::reciprocals` meets its contract. The invariant: the first j reciprocals are written, and all else is as it was.
 -- The measure: p - j. Assumes nothing.
 use Prim.Native.Nat.{◌-◌}
-use mathlib.Core.Path.{ap, ◌∙◌}
-use native.Mathlib.Omega.{arith}
-use Rattle.arrays.specs.Part.{part, tab}
-use Rattle.arrays.proofs.Part.{length-tab}
+use Rattle.arrays.specs.Part.{part}
 use Rattle.arrays.specs.Sums.{◌!◌}
-use Rattle.arrays.proofs.Turns.{Made, made_none, made_more, kept, made_all}
-use Rattle.layout.specs.Slots.{words}
-use Rattle.layout.proofs.Slots.{start, then}
-use Rattle.layout.specs.Slots.{Slot.SCALE, Slot.RECIP}
-use Rattle.lazy_normalization.specs.Lazy.{reciprocal_of, recip_store}
+use Rattle.arrays.proofs.Turns.{Made}
+use Rattle.lazy_normalization.specs.Lazy.{reciprocal_of}
 use Rattle.lazy_normalization.proofs.reciprocals.Given as goal
 
 abbrev pub invariant-loop-j : goal.invariant-loop-j

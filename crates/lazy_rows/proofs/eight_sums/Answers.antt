@@ -1,18 +1,11 @@
-use Prim.Native.Nat.{ℕ, ◌+◌, ◌-◌, ◌*◌, ◌≤◌}
+use Prim.Native.Nat.{◌+◌, ◌*◌}
 use mathlib.Core.Path.{◌≡◌, refl}
-use mathlib.Core.Logic.{⊎_elim}
-use mathlib.Core.List.{List}
 use native.Mathlib.Omega.{arith}
-use lib.Ieee.{Float}
-use Rattle.numbers.specs.Ops.{◌⊗◌}
-use Rattle.arrays.specs.Part.{part, tab}
-use Rattle.arrays.specs.Sums.{◌!◌}
-use Rattle.several.proofs.Several.{Several, several-none, several-more, several-turn, several-all}
+use Rattle.arrays.specs.Part.{tab}
+use Rattle.several.proofs.Several.{several-none, several-more, several-turn, several-all}
 use Rattle.lazy_normalization.proofs.Choice.{divided, multiplied}
-use Rattle.lazy_normalization.proofs.Entries.{row_of}
 use Rattle.lazy_rows.specs.RowSums.{RowReads}
 use Rattle.lazy_rows.proofs.RowSums.{row-term, one_of}
-use Rattle.lazy_rows.proofs.eight_sums.Invariants.{terms}
 use Rattle.lazy_rows.proofs.eight_sums.Goals as goal
 use Rattle.lazy_rows.proofs.eight_sums.Goals.{then-by+else-loop-k-test, else-by+else-loop-k-else-by-test}
 

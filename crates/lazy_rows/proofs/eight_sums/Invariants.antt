@@ -1,19 +1,13 @@
 -- `lazy_rows::eight_sums` meets its contract. The outer invariant: each of the eight sums has its first j products; the inner, of both branches: the
 -- first k have one more. The measures: p - j and 8 - k. Assumes nothing.
 use Prim.Native.Nat.{ℕ, ◌+◌, ◌-◌, ◌*◌, ◌≤◌}
-use mathlib.Core.Path.{◌≡◌, refl}
-use mathlib.Core.Logic.{⊎_elim}
 use mathlib.Core.List.{List}
-use native.Mathlib.Omega.{arith}
 use lib.Ieee.{Float}
 use Rattle.numbers.specs.Ops.{◌⊗◌}
-use Rattle.arrays.specs.Part.{part, tab}
+use Rattle.arrays.specs.Part.{part}
 use Rattle.arrays.specs.Sums.{◌!◌}
-use Rattle.several.proofs.Several.{Several, several-none, several-more, several-turn, several-all}
-use Rattle.lazy_normalization.proofs.Choice.{divided, multiplied}
+use Rattle.several.proofs.Several.{Several}
 use Rattle.lazy_normalization.proofs.Entries.{row_of}
-use Rattle.lazy_rows.specs.RowSums.{RowReads}
-use Rattle.lazy_rows.proofs.RowSums.{row-term, one_of}
 use Rattle.lazy_rows.proofs.eight_sums.Given as goal
 
 -- the products of sum k

@@ -1,11 +1,9 @@
-use Prim.Native.Nat.{◌-◌}
 use native.Mathlib.Nat.{mul_assoc}
 use native.Mathlib.Omega.{arith}
-use Rattle.numbers.specs.Ops.{◌⊗◌}
-use Rattle.several.proofs.Runs.{Runs, runs_none, runs-all}
+use Rattle.several.proofs.Runs.{runs_none, runs-all}
 use Rattle.matrices.proofs.Lengths.{row_room}
 use Rattle.lazy_rows.specs.RowSums.{lazy_sums}
-use Rattle.lazy_rows.proofs.RowSums.{row_sum, eighths-turn}
+use Rattle.lazy_rows.proofs.RowSums.{eighths-turn}
 use Rattle.lazy_rows.proofs.eighths.Goals as goal
 
 pub loop-i-init : goal.loop-i-init

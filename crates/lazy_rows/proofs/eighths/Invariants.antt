@@ -1,12 +1,8 @@
 -- `lazy_rows::eighths` meets its contract. The invariant: of each eighth the first i elements are written. The measure: e - i. Assumes nothing.
 use Prim.Native.Nat.{◌-◌}
-use native.Mathlib.Nat.{mul_assoc}
-use native.Mathlib.Omega.{arith}
 use Rattle.numbers.specs.Ops.{◌⊗◌}
-use Rattle.several.proofs.Runs.{Runs, runs_none, runs-all}
-use Rattle.matrices.proofs.Lengths.{row_room}
-use Rattle.lazy_rows.specs.RowSums.{lazy_sums}
-use Rattle.lazy_rows.proofs.RowSums.{row_sum, eighths-turn}
+use Rattle.several.proofs.Runs.{Runs}
+use Rattle.lazy_rows.proofs.RowSums.{row_sum}
 use Rattle.lazy_rows.proofs.eighths.Given as goal
 
 abbrev pub invariant-loop-i : goal.invariant-loop-i

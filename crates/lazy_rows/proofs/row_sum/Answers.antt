@@ -1,10 +1,6 @@
-use Prim.Native.Nat.{◌-◌, ◌≤◌}
 use mathlib.Core.Path.{◌≡◌, sym}
 use native.Mathlib.Omega.{arith}
-use Rattle.arrays.specs.Part.{part}
-use Rattle.arrays.specs.Sums.{◌!◌, products, plus0}
 use Rattle.arrays.proofs.Folds.{fold-none, fold-turn}
-use Rattle.lazy_normalization.proofs.Entries.{row_of}
 use Rattle.lazy_rows.proofs.RowSums.{row-term}
 use Rattle.lazy_rows.proofs.row_sum.Goals as goal
 

@@ -1,12 +1,9 @@
 -- `lazy_rows::row_sum` meets its contract. The invariant: x is the sum of the first j products, from +0. The measure: p - j. Assumes nothing.
 use Prim.Native.Nat.{◌-◌, ◌≤◌}
-use mathlib.Core.Path.{◌≡◌, sym}
-use native.Mathlib.Omega.{arith}
+use mathlib.Core.Path.{◌≡◌}
 use Rattle.arrays.specs.Part.{part}
 use Rattle.arrays.specs.Sums.{◌!◌, products, plus0}
-use Rattle.arrays.proofs.Folds.{fold-none, fold-turn}
 use Rattle.lazy_normalization.proofs.Entries.{row_of}
-use Rattle.lazy_rows.proofs.RowSums.{row-term}
 use Rattle.lazy_rows.proofs.row_sum.Given as goal
 
 abbrev pub invariant-loop-j : goal.invariant-loop-j

@@ -1,16 +1,12 @@
-use Prim.Native.Nat.{◌-◌, ◌*◌, ◌/◌, ◌≤◌}
-use mathlib.Core.Path.{◌≡◌}
-use mathlib.Core.List.{List}
+use Prim.Native.Nat.{◌*◌, ◌/◌, ◌≤◌}
 use native.Mathlib.Nat.{mul-le-mul_right}
 use native.Mathlib.Omega.{arith}
-use lib.ListN.{length, length-set}
-use lib.Ieee.{Float}
-use Rattle.numbers.specs.Ops.{◌⊗◌}
-use Rattle.arrays.proofs.Turns.{Made, made-first}
+use lib.ListN.{length-set}
+use Rattle.arrays.proofs.Turns.{made-first}
 use Rattle.matrices.proofs.Lengths.{row_room, next_row}
 use Rattle.lazy_normalization.specs.Lazy.{lazy_rows}
 use Rattle.lazy_rows.specs.RowSums.{lazy_sums}
-use Rattle.lazy_rows.proofs.RowSums.{row_sum, rows_more, rows_all}
+use Rattle.lazy_rows.proofs.RowSums.{rows_more, rows_all}
 use Rattle.lazy_rows.proofs.rows.Goals as goal
 
 pub eighths-requires : goal.eighths-requires

@@ -1,18 +1,13 @@
 -- `lazy_rows::rows` meets its contract. The invariant: row i begins at `at`, and over whatever b the eighths' elements were written to the first i
 -- elements now are. The measure: n - i. Assumes nothing.
-use Prim.Native.Nat.{◌-◌, ◌*◌, ◌/◌, ◌≤◌}
+use Prim.Native.Nat.{◌-◌, ◌*◌}
 use mathlib.Core.Path.{◌≡◌}
 use mathlib.Core.List.{List}
-use native.Mathlib.Nat.{mul-le-mul_right}
-use native.Mathlib.Omega.{arith}
-use lib.ListN.{length, length-set}
+use lib.ListN.{length}
 use lib.Ieee.{Float}
 use Rattle.numbers.specs.Ops.{◌⊗◌}
-use Rattle.arrays.proofs.Turns.{Made, made-first}
-use Rattle.matrices.proofs.Lengths.{row_room, next_row}
-use Rattle.lazy_normalization.specs.Lazy.{lazy_rows}
-use Rattle.lazy_rows.specs.RowSums.{lazy_sums}
-use Rattle.lazy_rows.proofs.RowSums.{row_sum, rows_more, rows_all}
+use Rattle.arrays.proofs.Turns.{Made}
+use Rattle.lazy_rows.proofs.RowSums.{row_sum}
 use Rattle.lazy_rows.proofs.rows.Given as goal
 
 abbrev pub invariant-loop-i : goal.invariant-loop-i

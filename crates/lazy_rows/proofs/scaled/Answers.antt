@@ -1,9 +1,6 @@
-use Prim.Native.Nat.{◌-◌}
 use mathlib.Core.Path.{refl}
 use native.Mathlib.Omega.{arith}
-use Rattle.numbers.specs.Ops.{◌⊗◌}
-use Rattle.arrays.specs.Sums.{◌!◌}
-use Rattle.arrays.proofs.Turns.{Made, made_none, array-more, array-all}
+use Rattle.arrays.proofs.Turns.{made_none, array-more, array-all}
 use Rattle.lazy_rows.proofs.scaled.Goals as goal
 
 pub loop-k-init : goal.loop-k-init

@@ -1,14 +1,7 @@
-use Prim.Native.Nat.{◌-◌}
-use mathlib.Core.Bool.{cond}
 use native.Mathlib.Omega.{arith}
-use lib.Dec.{eqb}
 use lib.ListN.{length-set}
-use lib.Ieee.{neg}
-use Rattle.numbers.specs.Ops.{◌⊖◌}
-use Rattle.arrays.specs.Part.{part}
-use Rattle.arrays.specs.Sums.{◌!◌}
 use Rattle.line_search.specs.Search.{faces_of}
-use Rattle.line_search.proofs.Pairs.{Paired, paired_none, paired-more, apart, paired-all}
+use Rattle.line_search.proofs.Pairs.{paired_none, paired-more, apart, paired-all}
 use Rattle.line_search.proofs.faces.Goals as goal
 
 pub loop-i-init : goal.loop-i-init

@@ -2,15 +2,12 @@
 -- The measure: p - i. Assumes nothing.
 use Prim.Native.Nat.{◌-◌}
 use mathlib.Core.Bool.{cond}
-use native.Mathlib.Omega.{arith}
 use lib.Dec.{eqb}
-use lib.ListN.{length-set}
 use lib.Ieee.{neg}
 use Rattle.numbers.specs.Ops.{◌⊖◌}
 use Rattle.arrays.specs.Part.{part}
 use Rattle.arrays.specs.Sums.{◌!◌}
-use Rattle.line_search.specs.Search.{faces_of}
-use Rattle.line_search.proofs.Pairs.{Paired, paired_none, paired-more, apart, paired-all}
+use Rattle.line_search.proofs.Pairs.{Paired}
 use Rattle.line_search.proofs.faces.Given as goal
 
 abbrev pub invariant-loop-i : goal.invariant-loop-i

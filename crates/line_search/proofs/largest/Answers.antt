@@ -1,12 +1,7 @@
-use Prim.Native.Nat.{◌≤◌, ◌-◌}
 use mathlib.Core.Path.{◌≡◌, sym, ◌∙◌}
-use mathlib.Core.Bool.{true}
 use native.Mathlib.Omega.{arith}
-use lib.Ieee.{Float, nan, inf, div, neg, of_bits}
-use Rattle.numbers.specs.Order.{maximum_of}
-use Rattle.arrays.specs.Part.{part}
+use lib.Ieee.{nan, div, neg, of_bits}
 use Rattle.arrays.proofs.Part.{get_or-part}
-use Rattle.arrays.specs.Sums.{◌!◌, fold_to}
 use Rattle.arrays.proofs.Folds.{fold-none, fold-turn}
 use Rattle.line_search.specs.Search.{largest_of}
 use Rattle.line_search.proofs.largest.Goals as goal

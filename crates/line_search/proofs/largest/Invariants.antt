@@ -1,15 +1,11 @@
 -- `line_search::largest` meets its contract. The invariant: t is the largest of the first i elements, from -infinity. The measure: n - i. Assumes nothing.
 use Prim.Native.Nat.{◌≤◌, ◌-◌}
-use mathlib.Core.Path.{◌≡◌, sym, ◌∙◌}
+use mathlib.Core.Path.{◌≡◌}
 use mathlib.Core.Bool.{true}
-use native.Mathlib.Omega.{arith}
-use lib.Ieee.{Float, nan, inf, div, neg, of_bits}
+use lib.Ieee.{Float, inf}
 use Rattle.numbers.specs.Order.{maximum_of}
 use Rattle.arrays.specs.Part.{part}
-use Rattle.arrays.proofs.Part.{get_or-part}
 use Rattle.arrays.specs.Sums.{◌!◌, fold_to}
-use Rattle.arrays.proofs.Folds.{fold-none, fold-turn}
-use Rattle.line_search.specs.Search.{largest_of}
 use Rattle.line_search.proofs.largest.Given as goal
 
 abbrev pub invariant-loop-i : goal.invariant-loop-i

@@ -1,11 +1,7 @@
-use Prim.Native.Nat.{◌≤◌, ◌-◌}
 use mathlib.Core.Path.{◌≡◌, sym}
 use native.Mathlib.Omega.{arith}
-use lib.Ieee.{nan, neg}
-use Rattle.logarithm.specs.Log.{ln_of}
-use Rattle.arrays.specs.Part.{part}
+use lib.Ieee.{nan}
 use Rattle.arrays.proofs.Part.{get_or-part}
-use Rattle.arrays.specs.Sums.{◌!◌, sum_to, plus0}
 use Rattle.arrays.proofs.Folds.{fold-none, fold-turn}
 use Rattle.line_search.specs.Search.{sumlogneg_of}
 use Rattle.line_search.proofs.sumlogneg.Goals as goal

@@ -1,14 +1,10 @@
 -- `line_search::sumlogneg` meets its contract. The invariant: t is the sum of the first i logarithms, from +0. The measure: n - i. Assumes nothing.
 use Prim.Native.Nat.{◌≤◌, ◌-◌}
-use mathlib.Core.Path.{◌≡◌, sym}
-use native.Mathlib.Omega.{arith}
-use lib.Ieee.{nan, neg}
+use mathlib.Core.Path.{◌≡◌}
+use lib.Ieee.{neg}
 use Rattle.logarithm.specs.Log.{ln_of}
 use Rattle.arrays.specs.Part.{part}
-use Rattle.arrays.proofs.Part.{get_or-part}
 use Rattle.arrays.specs.Sums.{◌!◌, sum_to, plus0}
-use Rattle.arrays.proofs.Folds.{fold-none, fold-turn}
-use Rattle.line_search.specs.Search.{sumlogneg_of}
 use Rattle.line_search.proofs.sumlogneg.Given as goal
 
 abbrev pub invariant-loop-i : goal.invariant-loop-i

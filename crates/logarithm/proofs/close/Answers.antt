@@ -1,7 +1,6 @@
 -- `logarithm::close` is `close_of`: its branches are the code's tests. Assumes nothing.
 use Rattle.logarithm.specs.Log.{close_of}
 use Rattle.logarithm.proofs.Whole.{zero-at, zero-off}
-use borrow.Author.Rules.{rules}
 use Rattle.logarithm.proofs.close.Goals as goal
 
 pub returns-then-c-eq1075 : goal.returns-then-c-eq1075

@@ -2,7 +2,6 @@
 use mathlib.Core.Path.{◌∙◌, ap}
 use lib.Ieee.{binary64, neg}
 use Rattle.logarithm.proofs.Whole.{float_up, float-down}
-use borrow.Author.Rules.{rules}
 use Rattle.logarithm.proofs.exponent.Goals as goal
 
 pub returns-then-c-lt1075 : goal.returns-then-c-lt1075

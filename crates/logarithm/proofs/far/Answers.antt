@@ -2,7 +2,6 @@
 use mathlib.Core.Path.{◌∙◌}
 use borrow.Author.Tests.{le-leb, lt-leb}
 use Rattle.logarithm.specs.Log.{far_of}
-use borrow.Author.Rules.{rules}
 use Rattle.logarithm.proofs.far.Goals as goal
 
 pub returns-then-hx-lt398458 : goal.returns-then-hx-lt398458

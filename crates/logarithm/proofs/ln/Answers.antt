@@ -9,7 +9,6 @@ use Rattle.logarithm.specs.Log.{ln_of}
 use Rattle.numbers.proofs.Nans.{a-nan, not-nan}
 use Rattle.logarithm.proofs.Scaled.{leading-zeros-agree}
 use Rattle.logarithm.proofs.Specials.{ln-nan, ln-of-zero-bits, ln-of-signed-bits, ln-of-top-bits}
-use borrow.Author.Rules.{rules}
 use Rattle.logarithm.proofs.ln.Goals as goal
 
 passed : (b : Bool) → b ≡ true → T b

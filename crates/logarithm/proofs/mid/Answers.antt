@@ -1,7 +1,6 @@
 -- `logarithm::mid` is `mid_of`. Assumes nothing.
 use Rattle.logarithm.specs.Log.{mid_of}
 use Rattle.logarithm.proofs.Whole.{zero-at, zero-off}
-use borrow.Author.Rules.{rules}
 use Rattle.logarithm.proofs.mid.Goals as goal
 
 pub returns-then-c-eq1075 : goal.returns-then-c-eq1075

@@ -4,7 +4,6 @@ use native.Mathlib.Omega.{arith}
 use borrow.Author.Tests.{lt-ltb, le-ltb}
 use Rattle.numbers.proofs.Nans.{bits-not-nan}
 use Rattle.logarithm.proofs.Scaled.{ln_at, ln-at-power}
-use borrow.Author.Rules.{rules}
 use Rattle.logarithm.proofs.normal_ln.Goals as goal
 
 pub float_from_bits-x : goal.float_from_bits-x

@@ -1,7 +1,6 @@
 -- `logarithm::out` is `out_of`. Assumes nothing.
 use Rattle.logarithm.specs.Log.{out_of}
 use Rattle.logarithm.proofs.Whole.{zero-at, zero-off}
-use borrow.Author.Rules.{rules}
 use Rattle.logarithm.proofs.out.Goals as goal
 
 pub returns-then-c-eq1075 : goal.returns-then-c-eq1075

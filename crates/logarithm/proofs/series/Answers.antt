@@ -1,7 +1,6 @@
 -- `logarithm::series` is `series_of`, operation for operation. Assumes nothing.
 use mathlib.Core.Path.{refl}
 use Rattle.logarithm.specs.Log.{series_of}
-use borrow.Author.Rules.{rules}
 use Rattle.logarithm.proofs.series.Goals as goal
 
 pub returns : goal.returns

@@ -1,8 +1,8 @@
-use mathlib.Core.Path.{◌≡◌, ap}
-use Prim.Native.Nat.{ℕ, ◌+◌, ◌-◌, ◌*◌}
+use mathlib.Core.Path.{ap}
+use Prim.Native.Nat.{ℕ}
 use native.Mathlib.Omega.{arith}
 use Rattle.arrays.specs.Sums.{◌!◌}
-use Rattle.arrays.proofs.Turns.{Made, made_none, made_more, made_all}
+use Rattle.arrays.proofs.Turns.{made_none, made_more, made_all}
 use Rattle.matrices.proofs.Lengths.{row_room, next_row}
 use Rattle.lone_rounds.specs.Lone.{diagonal_of}
 use Rattle.lone_rounds.proofs.diagonal.Goals as goal

@@ -1,12 +1,9 @@
 -- `lone_rounds::diagonal` meets its contract. The invariant: the first i elements are copied, the next stands at `at`, and all else is as it was.
 -- The measure: n - i. Assumes nothing.
-use mathlib.Core.Path.{◌≡◌, ap}
-use Prim.Native.Nat.{ℕ, ◌+◌, ◌-◌, ◌*◌}
-use native.Mathlib.Omega.{arith}
+use mathlib.Core.Path.{◌≡◌}
+use Prim.Native.Nat.{◌+◌, ◌-◌, ◌*◌}
 use Rattle.arrays.specs.Sums.{◌!◌}
-use Rattle.arrays.proofs.Turns.{Made, made_none, made_more, made_all}
-use Rattle.matrices.proofs.Lengths.{row_room, next_row}
-use Rattle.lone_rounds.specs.Lone.{diagonal_of}
+use Rattle.arrays.proofs.Turns.{Made}
 use Rattle.lone_rounds.proofs.diagonal.Given as goal
 
 abbrev pub invariant-loop-i : goal.invariant-loop-i

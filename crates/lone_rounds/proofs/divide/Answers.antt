@@ -1,8 +1,6 @@
-use Prim.Native.Nat.{◌-◌, ◌*◌}
+use Prim.Native.Nat.{◌*◌}
 use native.Mathlib.Omega.{arith}
-use Rattle.arrays.specs.Part.{part}
-use Rattle.arrays.specs.Sums.{◌!◌}
-use Rattle.arrays.proofs.Turns.{Made, made_none, zip_more, made_all}
+use Rattle.arrays.proofs.Turns.{made_none, zip_more, made_all}
 use Rattle.lone_rounds.specs.Lone.{over_of, divided_of}
 use Rattle.lone_rounds.proofs.divide.Goals as goal
 

@@ -1,10 +1,9 @@
 -- `lone_rounds::divide` meets its contract. The invariant: the first i quotients are written, and all else is as it was. The measure: n - i. Assumes nothing.
 use Prim.Native.Nat.{◌-◌, ◌*◌}
-use native.Mathlib.Omega.{arith}
 use Rattle.arrays.specs.Part.{part}
 use Rattle.arrays.specs.Sums.{◌!◌}
-use Rattle.arrays.proofs.Turns.{Made, made_none, zip_more, made_all}
-use Rattle.lone_rounds.specs.Lone.{over_of, divided_of}
+use Rattle.arrays.proofs.Turns.{Made}
+use Rattle.lone_rounds.specs.Lone.{over_of}
 use Rattle.lone_rounds.proofs.divide.Given as goal
 
 abbrev pub invariant-loop-i : goal.invariant-loop-i

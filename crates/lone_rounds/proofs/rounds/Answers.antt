@@ -1,7 +1,4 @@
-use Prim.Native.Nat.{◌-◌}
-use native.Mathlib.Omega.{arith}
-use borrow.Author.Rules.{rules}
-use Rattle.lone_rounds.proofs.Looping.{Going, going, goes_on, stopped-at, ended}
+use Rattle.lone_rounds.proofs.Looping.{going, goes_on, stopped-at, ended}
 use Rattle.lone_rounds.proofs.rounds.Goals as goal
 
 pub loop-iter-init : goal.loop-iter-init

@@ -1,9 +1,7 @@
 -- `lone_rounds::rounds` meets its contract. The invariant: the rounds left, from `iter` on, give the whole loop's result; diagonal and excess are as they were.
 -- The measure: limit - iter. Assumes nothing.
 use Prim.Native.Nat.{◌-◌}
-use native.Mathlib.Omega.{arith}
-use borrow.Author.Rules.{rules}
-use Rattle.lone_rounds.proofs.Looping.{Going, going, goes_on, stopped-at, ended}
+use Rattle.lone_rounds.proofs.Looping.{Going}
 use Rattle.lone_rounds.proofs.rounds.Given as goal
 
 abbrev pub invariant-loop-iter : goal.invariant-loop-iter

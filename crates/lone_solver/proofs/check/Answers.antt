@@ -2,7 +2,6 @@
 use mathlib.Core.Path.{sym, ◌∙◌}
 use native.Mathlib.Nat.{mul-le-mul}
 use native.Mathlib.Omega.{arith}
-use borrow.Author.Tests.{not-true, not-false}
 use Rattle.refusal.proofs.Scanning.{opposed}
 use Rattle.lone_solver.proofs.Checks.{InSize, Lengths, Settled, bad-size, bad-length, bad-setting, bad-scratch, good-sizes}
 use Rattle.lone_solver.proofs.check.Goals as goal

@@ -1,6 +1,5 @@
 -- `lone_solver::solve` meets its contract: a check that passes gives what `run` asks. Assumes nothing.
 use native.Mathlib.Omega.{arith}
-use borrow.Author.Rules.{rules}
 use Rattle.lone_solver.proofs.Checks.{passed}
 use Rattle.lone_solver.proofs.Outcomes.{refuses, solves}
 use Rattle.lone_solver.proofs.solve.Goals as goal

@@ -5,7 +5,6 @@ use native.Mathlib.Nat.{mul-le-mul}
 use native.Mathlib.Omega.{arith}
 use lib.Dec.{eqb}
 use lib.Ieee.{le}
-use borrow.Author.Rules.{rules}
 use borrow.Author.Tests.{ne_eqb}
 use Rattle.arrays.specs.Sums.{plus0}
 use Rattle.refusal.specs.declared.Refusal.TheVariants.{Tolerance, NoRounds}

@@ -1,12 +1,11 @@
-use Prim.Native.Nat.{ℕ, ◌+◌, ◌-◌, ◌*◌, ◌≤◌}
+use Prim.Native.Nat.{ℕ, ◌+◌, ◌*◌}
 use mathlib.Core.Path.{◌≡◌, ap}
 use native.Mathlib.Nat.{add-mul, mul-one}
 use native.Mathlib.Omega.{arith}
 use Rattle.arrays.specs.Sums.{◌!◌}
-use Rattle.arrays.proofs.Turns.{Made}
 use Rattle.several.proofs.Added.{added_none}
 use Rattle.matrices.proofs.Lengths.{rows-room}
-use Rattle.matrix_columns.proofs.Summed.{summed, summed-on, clear-row, alike}
+use Rattle.matrix_columns.proofs.Summed.{summed-on, clear-row, alike}
 use Rattle.matrix_columns.proofs.add_fours.Goals as goal
 
 pub loop-i-init : goal.loop-i-init

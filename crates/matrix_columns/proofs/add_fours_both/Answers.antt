@@ -1,13 +1,12 @@
-use Prim.Native.Nat.{ℕ, ◌+◌, ◌-◌, ◌*◌, ◌≤◌}
+use Prim.Native.Nat.{ℕ, ◌+◌, ◌*◌}
 use mathlib.Core.Path.{◌≡◌, ap}
 use native.Mathlib.Nat.{add-mul}
 use native.Mathlib.Omega.{arith}
 use Rattle.arrays.specs.Sums.{◌!◌}
 use Rattle.several.specs.Several.{Four}
-use Rattle.arrays.proofs.Turns.{Made}
 use Rattle.several.proofs.Added.{added_none}
 use Rattle.matrices.proofs.Lengths.{rows-room}
-use Rattle.matrix_columns.proofs.Summed.{summed, summed-on, clear-row, alike}
+use Rattle.matrix_columns.proofs.Summed.{summed-on, clear-row, alike}
 use Rattle.matrix_columns.proofs.add_fours_both.Goals as goal
 
 pub loop-i-init : goal.loop-i-init

@@ -1,15 +1,9 @@
 -- `matrix_columns::add_fours_both` meets its contract. The invariant: row 4 * i begins at `at`, and both sums have the products of the rows before it.
 -- The measure: q - i. Assumes nothing.
-use Prim.Native.Nat.{ℕ, ◌+◌, ◌-◌, ◌*◌, ◌≤◌}
-use mathlib.Core.Path.{◌≡◌, ap}
-use native.Mathlib.Nat.{add-mul}
-use native.Mathlib.Omega.{arith}
-use Rattle.arrays.specs.Sums.{◌!◌}
-use Rattle.several.specs.Several.{Four}
+use Prim.Native.Nat.{◌+◌, ◌-◌, ◌*◌, ◌≤◌}
+use mathlib.Core.Path.{◌≡◌}
 use Rattle.arrays.proofs.Turns.{Made}
-use Rattle.several.proofs.Added.{added_none}
-use Rattle.matrices.proofs.Lengths.{rows-room}
-use Rattle.matrix_columns.proofs.Summed.{summed, summed-on, clear-row, alike}
+use Rattle.matrix_columns.proofs.Summed.{summed}
 use Rattle.matrix_columns.proofs.add_fours_both.Given as goal
 
 abbrev pub invariant-loop-i : goal.invariant-loop-i

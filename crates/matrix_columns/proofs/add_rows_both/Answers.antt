@@ -1,12 +1,11 @@
-use Prim.Native.Nat.{ℕ, ◌+◌, ◌-◌, ◌*◌, ◌≤◌}
+use Prim.Native.Nat.{ℕ}
 use mathlib.Core.Path.{◌≡◌, refl, ap, ◌∙◌}
 use native.Mathlib.Omega.{arith}
 use Rattle.arrays.specs.Part.{put}
 use Rattle.arrays.specs.Sums.{◌!◌}
-use Rattle.arrays.proofs.Turns.{Made}
 use Rattle.several.proofs.Added.{added_none, added-one}
 use Rattle.matrices.proofs.Lengths.{row_room, next_row}
-use Rattle.matrix_columns.proofs.Summed.{summed, summed-on, clear-row, alike}
+use Rattle.matrix_columns.proofs.Summed.{summed-on, clear-row, alike}
 use Rattle.matrix_columns.proofs.add_rows_both.Goals as goal
 
 pub loop-i-init : goal.loop-i-init

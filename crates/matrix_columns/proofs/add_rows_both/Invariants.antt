@@ -1,14 +1,9 @@
 -- `matrix_columns::add_rows_both` meets its contract. The invariant: row i begins at `at`, and both sums have the products of the rows before it.
 -- The measure: rows - i. Assumes nothing.
-use Prim.Native.Nat.{ℕ, ◌+◌, ◌-◌, ◌*◌, ◌≤◌}
-use mathlib.Core.Path.{◌≡◌, refl, ap, ◌∙◌}
-use native.Mathlib.Omega.{arith}
-use Rattle.arrays.specs.Part.{put}
-use Rattle.arrays.specs.Sums.{◌!◌}
+use Prim.Native.Nat.{◌+◌, ◌-◌, ◌*◌, ◌≤◌}
+use mathlib.Core.Path.{◌≡◌}
 use Rattle.arrays.proofs.Turns.{Made}
-use Rattle.several.proofs.Added.{added_none, added-one}
-use Rattle.matrices.proofs.Lengths.{row_room, next_row}
-use Rattle.matrix_columns.proofs.Summed.{summed, summed-on, clear-row, alike}
+use Rattle.matrix_columns.proofs.Summed.{summed}
 use Rattle.matrix_columns.proofs.add_rows_both.Given as goal
 
 abbrev pub invariant-loop-i : goal.invariant-loop-i

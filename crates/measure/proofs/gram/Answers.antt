@@ -1,6 +1,5 @@
 -- `measure::gram` meets its contract. Assumes nothing.
 use Rattle.beginning.proofs.Starts.{lent}
-use native.Mathlib.Omega.{arith}
 use Rattle.measure.proofs.gram.Goals as goal
 
 pub gram-requires : goal.gram-requires

@@ -1,6 +1,5 @@
 -- `measure::measure_piece` is safe: what `limits` has passed may be prepared as a start prepares it. Assumes nothing.
 use native.Mathlib.Omega.{arith}
-use borrow.Author.Rules.{rules}
 use lib.ListN.{length}
 use Rattle.checks.specs.Checks.{Accepted}
 use Rattle.checks.proofs.Laws.{fine_of, accepted}

@@ -3,7 +3,6 @@ use native.Mathlib.Nat.{mul-le-mul}
 use native.Mathlib.Omega.{arith}
 use Prim.Native.Nat.{◌≤◌}
 use Rattle.layout.specs.Slots.{words}
-use borrow.Author.Rules.{rules}
 use Rattle.measure.proofs.measure_round.Goals as goal
 
 pub overflow_mul-p : goal.overflow_mul-p

@@ -1,8 +1,6 @@
 -- `measure::piece` meets its contract. Assumes nothing.
 use Rattle.beginning.proofs.Starts.{given}
 use Rattle.measure.proofs.Rooms.{held, from-w, from-nu}
-use native.Mathlib.Omega.{arith}
-use borrow.Author.Rules.{rules}
 use Rattle.measure.proofs.piece.Goals as goal
 
 pub ready-requires : goal.ready-requires

@@ -1,10 +1,8 @@
 -- `measure::repeat` meets its contract. The contract asks only that it runs. The invariant: the scratch keeps its length.
 -- The measure: count - i. Assumes nothing.
 use Prim.Native.Nat.{◌≤◌, ◌-◌}
-use mathlib.Core.Path.{◌≡◌, refl}
-use native.Mathlib.Omega.{arith}
+use mathlib.Core.Path.{◌≡◌}
 use lib.ListN.{length}
-use Rattle.measure.proofs.Rooms.{still}
 use Rattle.measure.proofs.repeat.Given as goal
 
 abbrev pub invariant-loop-i : goal.invariant-loop-i

@@ -1,9 +1,5 @@
-use Prim.Native.Nat.{◌≤◌, ◌-◌}
-use mathlib.Core.Path.{◌≡◌}
-use lib.ListN.{length}
 use native.Mathlib.Omega.{arith}
 use Rattle.measure.proofs.Rooms.{as_long}
-use borrow.Author.Rules.{rules}
 use Rattle.measure.proofs.rounds.Goals as goal
 
 pub begin-bnrm-requires : goal.begin-bnrm-requires

@@ -1,6 +1,5 @@
 -- `measure::stored` meets its contract. Assumes nothing.
 use mathlib.Core.Path.{◌∙◌}
-use native.Mathlib.Omega.{arith}
 use Rattle.measure.proofs.Rooms.{matrix-given}
 use Rattle.measure.proofs.stored.Goals as goal
 

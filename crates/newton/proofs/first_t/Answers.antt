@@ -1,5 +1,4 @@
 -- `newton::first_t` meets its contract. Assumes nothing.
-use native.Mathlib.Omega.{arith}
 use Rattle.newton.specs.Newton.{start_t}
 use Rattle.newton.proofs.first_t.Goals as goal
 

@@ -1,11 +1,8 @@
-use Prim.Native.Nat.{◌-◌}
 use native.Mathlib.Omega.{arith}
 use lib.Ieee.{Float}
 use Rattle.numbers.specs.Ops.{◌⊖◌, ◌⊗◌, ◌⊘◌}
 use Rattle.numbers.specs.Constants.{two}
-use Rattle.arrays.specs.Part.{part}
-use Rattle.arrays.specs.Sums.{◌!◌}
-use Rattle.arrays.proofs.Turns.{Made, made_none, made_all}
+use Rattle.arrays.proofs.Turns.{made_none, made_all}
 use Rattle.newton.specs.Newton.{g1_of}
 use Rattle.newton.proofs.Three.{three-more}
 use Rattle.newton.proofs.g1.Goals as goal

@@ -1,15 +1,11 @@
 -- `newton::g1` meets its contract. The invariant: the first i elements of gradphi have become those of g1, and all else is as it was.
 -- The measure: p - i. Assumes nothing.
 use Prim.Native.Nat.{◌-◌}
-use native.Mathlib.Omega.{arith}
-use lib.Ieee.{Float}
 use Rattle.numbers.specs.Ops.{◌⊖◌, ◌⊗◌, ◌⊘◌}
 use Rattle.numbers.specs.Constants.{two}
 use Rattle.arrays.specs.Part.{part}
 use Rattle.arrays.specs.Sums.{◌!◌}
-use Rattle.arrays.proofs.Turns.{Made, made_none, made_all}
-use Rattle.newton.specs.Newton.{g1_of}
-use Rattle.newton.proofs.Three.{three-more}
+use Rattle.arrays.proofs.Turns.{Made}
 use Rattle.newton.proofs.g1.Given as goal
 
 abbrev pub invariant-loop-i : goal.invariant-loop-i

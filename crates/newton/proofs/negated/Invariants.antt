@@ -1,11 +1,9 @@
 -- `newton::negated` meets its contract. The invariant: the first i elements are written, and all else is as it was. The measure: p - i. Assumes nothing.
 use Prim.Native.Nat.{◌-◌}
-use native.Mathlib.Omega.{arith}
 use lib.Ieee.{neg}
 use Rattle.arrays.specs.Part.{part}
 use Rattle.arrays.specs.Sums.{◌!◌}
-use Rattle.arrays.specs.Vectors.{map_of}
-use Rattle.arrays.proofs.Turns.{Made, made_none, map_more, made_all}
+use Rattle.arrays.proofs.Turns.{Made}
 use Rattle.newton.proofs.negated.Given as goal
 
 abbrev pub invariant-loop-i : goal.invariant-loop-i

@@ -1,11 +1,9 @@
 -- `newton::negated_g2` meets its contract. The invariant: the first i elements are written, and all else is as it was. The measure: p - i. Assumes nothing.
 use Prim.Native.Nat.{◌-◌}
-use native.Mathlib.Omega.{arith}
-use lib.Ieee.{Float, neg}
+use lib.Ieee.{neg}
 use Rattle.arrays.specs.Part.{part}
 use Rattle.arrays.specs.Sums.{◌!◌}
-use Rattle.arrays.specs.Vectors.{zip_of}
-use Rattle.arrays.proofs.Turns.{Made, made_none, zip_more, made_all}
+use Rattle.arrays.proofs.Turns.{Made}
 use Rattle.newton.specs.Newton.{g2_at}
 use Rattle.newton.proofs.negated_g2.Given as goal
 

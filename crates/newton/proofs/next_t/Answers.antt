@@ -1,5 +1,4 @@
 -- `newton::next_t` meets its contract. Assumes nothing.
-use native.Mathlib.Omega.{arith}
 use Rattle.newton.specs.Newton.{next_t}
 use Rattle.newton.proofs.next_t.Goals as goal
 

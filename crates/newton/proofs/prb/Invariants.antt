@@ -1,10 +1,8 @@
 -- `newton::prb` meets its contract. The invariant: the first i elements are written, and all else is as it was. The measure: p - i. Assumes nothing.
 use Prim.Native.Nat.{◌-◌}
-use native.Mathlib.Omega.{arith}
 use Rattle.arrays.specs.Part.{part}
 use Rattle.arrays.specs.Sums.{◌!◌}
-use Rattle.arrays.specs.Vectors.{map_of}
-use Rattle.arrays.proofs.Turns.{Made, made_none, map_more, made_all}
+use Rattle.arrays.proofs.Turns.{Made}
 use Rattle.newton.specs.Newton.{prb_at}
 use Rattle.newton.proofs.prb.Given as goal
 

@@ -1,10 +1,7 @@
-use Prim.Native.Nat.{◌-◌}
 use native.Mathlib.Omega.{arith}
 use lib.Ieee.{Float}
 use Rattle.numbers.specs.Ops.{◌⊖◌, ◌⊗◌}
-use Rattle.arrays.specs.Part.{part}
-use Rattle.arrays.specs.Sums.{◌!◌}
-use Rattle.arrays.proofs.Turns.{Made, made_none, made_all}
+use Rattle.arrays.proofs.Turns.{made_none, made_all}
 use Rattle.newton.specs.Newton.{prs_of}
 use Rattle.newton.proofs.Three.{three-more}
 use Rattle.newton.proofs.prs.Goals as goal

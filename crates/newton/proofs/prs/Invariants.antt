@@ -1,13 +1,9 @@
 -- `newton::prs` meets its contract. The invariant: the first i elements are written, and all else is as it was. The measure: p - i. Assumes nothing.
 use Prim.Native.Nat.{◌-◌}
-use native.Mathlib.Omega.{arith}
-use lib.Ieee.{Float}
 use Rattle.numbers.specs.Ops.{◌⊖◌, ◌⊗◌}
 use Rattle.arrays.specs.Part.{part}
 use Rattle.arrays.specs.Sums.{◌!◌}
-use Rattle.arrays.proofs.Turns.{Made, made_none, made_all}
-use Rattle.newton.specs.Newton.{prs_of}
-use Rattle.newton.proofs.Three.{three-more}
+use Rattle.arrays.proofs.Turns.{Made}
 use Rattle.newton.proofs.prs.Given as goal
 
 abbrev pub invariant-loop-i : goal.invariant-loop-i

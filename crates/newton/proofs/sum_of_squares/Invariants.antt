@@ -1,10 +1,8 @@
 -- `newton::sum_of_squares` meets its contract. The invariant: the first i elements are written, and all else is as it was. The measure: p - i. Assumes nothing.
 use Prim.Native.Nat.{◌-◌}
-use native.Mathlib.Omega.{arith}
 use Rattle.arrays.specs.Part.{part}
 use Rattle.arrays.specs.Sums.{◌!◌}
-use Rattle.arrays.specs.Vectors.{zip_of}
-use Rattle.arrays.proofs.Turns.{Made, made_none, zip_more, made_all}
+use Rattle.arrays.proofs.Turns.{Made}
 use Rattle.newton.specs.Newton.{sum_of_squares}
 use Rattle.newton.proofs.sum_of_squares.Given as goal
 

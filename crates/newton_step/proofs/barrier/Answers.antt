@@ -1,5 +1,4 @@
 -- `newton_step::barrier` meets its contract. Assumes nothing.
-use native.Mathlib.Omega.{arith}
 use Rattle.layout.specs.Slots.{words}
 use Rattle.layout.proofs.Slots.{start}
 use Rattle.newton_step.proofs.Stores.{barrier-left}

@@ -1,5 +1,4 @@
 -- `newton_step::gradphi` meets its contract. Assumes nothing.
-use native.Mathlib.Omega.{arith}
 use Rattle.newton_step.proofs.Stores.{gradphi-copied}
 use Rattle.newton_step.proofs.gradphi.Goals as goal
 

@@ -1,5 +1,4 @@
 -- `newton_step::newton_terms` meets its contract. Assumes nothing.
-use native.Mathlib.Omega.{arith}
 use Rattle.layout.proofs.Slots.{next, vars-of}
 use Rattle.design_products.proofs.Lengths.{held_on}
 use Rattle.lasso_optimizer.specs.Opening.{gradient_store, preconditioner_store, newton_store}

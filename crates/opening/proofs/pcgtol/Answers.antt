@@ -1,5 +1,4 @@
 -- `opening::pcgtol` meets its contract. Assumes nothing.
-use native.Mathlib.Omega.{arith}
 use Rattle.opening.proofs.Returns.{pcgtol-first, pcgtol-later}
 use Rattle.opening.proofs.pcgtol.Goals as goal
 

@@ -2,7 +2,6 @@
 use mathlib.Core.Path.{sym, ◌∙◌}
 use native.Mathlib.Nat.{mul-le-mul}
 use native.Mathlib.Omega.{arith}
-use borrow.Author.Tests.{not-true, not-false}
 use Rattle.refusal.proofs.Scanning.{opposed}
 use Rattle.refusal.proofs.Sizes.{InSize, size-good, size_of}
 use Rattle.prediction.proofs.Checks.{Lengths, bad-size, bad-length, good-sizes}

@@ -1,10 +1,8 @@
 -- `prediction::finish` meets its contract. The invariant: the first k products have the intercept. The measure: 8 - k. Assumes nothing.
 use Prim.Native.Nat.{◌-◌}
-use mathlib.Core.Path.{refl}
-use native.Mathlib.Omega.{arith}
 use Rattle.numbers.specs.Ops.{◌⊕◌}
 use Rattle.arrays.specs.Sums.{◌!◌}
-use Rattle.arrays.proofs.Turns.{Made, made_none, array-more, array-all}
+use Rattle.arrays.proofs.Turns.{Made}
 use Rattle.prediction.proofs.finish.Given as goal
 
 abbrev pub invariant-loop-k : goal.invariant-loop-k

@@ -1,10 +1,9 @@
-use Prim.Native.Nat.{◌-◌}
 use native.Mathlib.Nat.{zero-add, suc-mul, mul-le-mul_right}
 use native.Mathlib.Omega.{arith}
-use Rattle.several.proofs.Runs.{Runs, runs_none, runs-spread, runs-all}
+use Rattle.several.proofs.Runs.{runs_none, runs-spread, runs-all}
 use Rattle.several.proofs.Rows.{run-rows}
 use Rattle.prediction.specs.Predict.{predicted_of}
-use Rattle.prediction.proofs.EachRow.{one, of-eight}
+use Rattle.prediction.proofs.EachRow.{of-eight}
 use Rattle.prediction.proofs.runs.Goals as goal
 
 pub overflow_mul-apart : goal.overflow_mul-apart

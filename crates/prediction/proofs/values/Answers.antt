@@ -2,8 +2,6 @@
 use mathlib.Core.Path.{sym, ◌∙◌}
 use native.Mathlib.Nat.{mul-le-mul}
 use native.Mathlib.Omega.{arith}
-use borrow.Author.Rules.{rules}
-use borrow.Author.Tests.{not-true, not-false}
 use Rattle.refusal.proofs.Scanning.{near}
 use Rattle.prediction.proofs.Checks.{in-matrix, in-weights, in-intercept, all-finite}
 use Rattle.prediction.proofs.values.Goals as goal

@@ -1,5 +1,4 @@
 -- `records::clean` meets its contract. Assumes nothing.
-use borrow.Author.Rules.{rules}
 use Rattle.records.proofs.clean.Goals as goal
 
 pub returns : goal.returns

@@ -1,5 +1,4 @@
 -- `records::clean_scalars` meets its contract: `canonical` changes no number. Assumes nothing.
-use borrow.Author.Rules.{rules}
 use Rattle.records.proofs.clean_scalars.Goals as goal
 
 pub returns : goal.returns

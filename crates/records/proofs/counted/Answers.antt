@@ -1,5 +1,4 @@
 -- `records::counted` meets its contract: each return is the first test that fails. Assumes nothing.
-use borrow.Author.Rules.{rules}
 use borrow.Author.Tests.{le-leb, lt-leb, eq-eqb, ne_eqb}
 use Rattle.records.specs.Records.{counted_of}
 use Rattle.records.proofs.counted.Goals as goal

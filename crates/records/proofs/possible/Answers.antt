@@ -1,5 +1,4 @@
 -- `records::possible` meets its contract: each return is the first test that fails, stage by stage. Assumes nothing.
-use borrow.Author.Rules.{rules}
 use borrow.Author.Tests.{lt-ltb, le-ltb, le-leb, lt-leb, eq-eqb, ne_eqb}
 use Rattle.records.specs.Records.{possible_of, possible_at}
 use Rattle.records.proofs.possible.Goals as goal

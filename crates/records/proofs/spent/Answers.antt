@@ -1,5 +1,4 @@
 -- `records::spent` meets its contract: each arm is that of `spent_of`. Assumes nothing.
-use borrow.Author.Rules.{rules}
 use Rattle.records.specs.Records.{spent_at, spent_of}
 use Rattle.records.proofs.spent.Goals as goal
 

@@ -1,6 +1,5 @@
 -- `refusal::at` meets its contract. Assumes nothing.
 use native.Mathlib.Omega.{arith}
-use borrow.Author.Rules.{rules}
 use Rattle.refusal.proofs.at.Goals as goal
 
 pub overflow_add-result : goal.overflow_add-result

@@ -1,7 +1,7 @@
 -- `settings::allowed` meets its contract: each early answer is that of the first part of the conjunction that fails. Assumes nothing.
 use mathlib.Core.Path.{◌≡◌, sym, ◌∙◌}
 use mathlib.Core.Bool.{true}
-use borrow.Author.Tests.{not-true, not-false, le-leb, lt-leb}
+use borrow.Author.Tests.{le-leb, lt-leb}
 use Rattle.numbers.specs.Constants.{one}
 use Rattle.settings.specs.Settings.{allowed_of, range_of, million, largest}
 use Rattle.settings.proofs.allowed.Goals as goal

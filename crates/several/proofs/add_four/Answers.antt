@@ -1,6 +1,5 @@
 -- `several::add_four` meets its contract: what it adds is read before anything is written. Assumes nothing.
 use mathlib.Core.Path.{refl, ap, ◌∙◌}
-use native.Mathlib.Omega.{arith}
 use Rattle.arrays.specs.Part.{put}
 use Rattle.several.proofs.Added.{added-read}
 use Rattle.several.proofs.add_four.Goals as goal

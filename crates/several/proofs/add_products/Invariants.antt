@@ -1,13 +1,10 @@
 -- `several::add_products` meets its contract. The outer invariant: the first j sums are written, and all else is as it was; the inner: t is sum j with its
 -- first k products. The measures: n - j and 4 - k. Assumes nothing.
 use Prim.Native.Nat.{◌-◌, ◌≤◌}
-use mathlib.Core.Path.{◌≡◌, refl, ◌∙◌}
-use native.Mathlib.Omega.{arith}
+use mathlib.Core.Path.{◌≡◌}
 use Rattle.arrays.specs.Sums.{◌!◌}
 use Rattle.several.specs.Several.{added_of}
-use Rattle.several.proofs.Several.{few}
-use Rattle.arrays.proofs.Turns.{Made, made_none, made_more, made_all}
-use Rattle.several.proofs.Added.{still, added-kept, added-first, added_more}
+use Rattle.arrays.proofs.Turns.{Made}
 use Rattle.several.proofs.add_products.Given as goal
 
 abbrev pub invariant-loop-k : goal.invariant-loop-k

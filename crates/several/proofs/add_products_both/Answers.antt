@@ -1,10 +1,9 @@
-use Prim.Native.Nat.{ℕ, ◌+◌, ◌-◌, ◌≤◌}
+use Prim.Native.Nat.{ℕ, ◌+◌}
 use mathlib.Core.Path.{◌≡◌, refl, ap, ◌∙◌}
 use native.Mathlib.Omega.{arith}
 use Rattle.arrays.specs.Sums.{◌!◌}
-use Rattle.several.specs.Several.{added_of}
 use Rattle.several.proofs.Several.{few}
-use Rattle.arrays.proofs.Turns.{Made, made_none, made_more, made_all}
+use Rattle.arrays.proofs.Turns.{made_none, made_more, made_all}
 use Rattle.several.proofs.Added.{still, added-kept, added-first, added_more}
 use Rattle.several.proofs.add_products_both.Goals as goal
 

@@ -1,15 +1,12 @@
 -- `several::eight` meets its contract. The outer invariant: each of the eight sums has its first i terms; the inner: the first k have one more.
 -- The measures: n - i and 8 - k. Assumes nothing.
 use Prim.Native.Nat.{ℕ, ◌+◌, ◌-◌, ◌*◌, ◌≤◌}
-use mathlib.Core.Path.{◌≡◌, refl}
 use mathlib.Core.List.{List}
-use native.Mathlib.Omega.{arith}
-use lib.Ieee.{Float, nan}
+use lib.Ieee.{Float}
 use Rattle.numbers.specs.Ops.{◌⊗◌}
-use Rattle.arrays.specs.Part.{part, tab}
-use Rattle.arrays.proofs.Part.{get_or-part}
-use Rattle.arrays.specs.Sums.{◌!◌, product_of}
-use Rattle.several.proofs.Several.{Several, several-none, several-more, several-turn, several-all, few}
+use Rattle.arrays.specs.Part.{part}
+use Rattle.arrays.specs.Sums.{◌!◌}
+use Rattle.several.proofs.Several.{Several}
 use Rattle.several.proofs.eight.Given as goal
 
 -- the terms of sum k

@@ -1,8 +1,6 @@
-use Prim.Native.Nat.{◌+◌, ◌-◌, ◌*◌}
 use mathlib.Core.Path.{refl}
 use native.Mathlib.Omega.{arith}
-use Rattle.arrays.specs.Sums.{◌!◌}
-use Rattle.arrays.proofs.Turns.{Made, made_none, array-more, array-all}
+use Rattle.arrays.proofs.Turns.{made_none, array-more, array-all}
 use Rattle.several.proofs.Several.{few}
 use Rattle.several.proofs.four_at.Goals as goal
 

@@ -1,11 +1,8 @@
 -- `several::four_at` meets its contract. The invariant: the first k elements are written.
 -- The measure: 4 - k. Assumes nothing.
 use Prim.Native.Nat.{◌+◌, ◌-◌, ◌*◌}
-use mathlib.Core.Path.{refl}
-use native.Mathlib.Omega.{arith}
 use Rattle.arrays.specs.Sums.{◌!◌}
-use Rattle.arrays.proofs.Turns.{Made, made_none, array-more, array-all}
-use Rattle.several.proofs.Several.{few}
+use Rattle.arrays.proofs.Turns.{Made}
 use Rattle.several.proofs.four_at.Given as goal
 
 abbrev pub invariant-loop-k : goal.invariant-loop-k

@@ -1,9 +1,7 @@
-use Prim.Native.Nat.{◌-◌, ◌≤◌}
 use mathlib.Core.Path.{◌≡◌, refl}
 use native.Mathlib.Numerals.{add-one}
 use native.Mathlib.Omega.{arith}
-use lib.ListN.{length, length-set}
-use Rattle.arrays.specs.Sums.{◌!◌}
+use lib.ListN.{length-set}
 use Rattle.several.specs.Several.{spread_of}
 use Rattle.several.proofs.Several.{few}
 use Rattle.several.proofs.put_eight.Goals as goal

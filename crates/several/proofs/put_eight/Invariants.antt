@@ -1,13 +1,10 @@
 -- `several::put_eight` meets its contract. The invariant: the first k numbers are written.
 -- The measure: 8 - k. Assumes nothing.
 use Prim.Native.Nat.{◌-◌, ◌≤◌}
-use mathlib.Core.Path.{◌≡◌, refl}
-use native.Mathlib.Numerals.{add-one}
-use native.Mathlib.Omega.{arith}
-use lib.ListN.{length, length-set}
+use mathlib.Core.Path.{◌≡◌}
+use lib.ListN.{length}
 use Rattle.arrays.specs.Sums.{◌!◌}
 use Rattle.several.specs.Several.{spread_of}
-use Rattle.several.proofs.Several.{few}
 use Rattle.several.proofs.put_eight.Given as goal
 
 abbrev pub invariant-loop-k : goal.invariant-loop-k

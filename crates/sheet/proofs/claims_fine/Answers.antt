@@ -1,7 +1,7 @@
 -- `sheet::claims_fine` meets its contract: no claim number is 0. Assumes nothing.
 use mathlib.Core.Path.{◌≡◌, refl, sym, ◌∙◌}
 use mathlib.Core.Bool.{Bool, true, false, ◌||◌}
-use borrow.Author.Tests.{not-true, not-false, ne_eqb}
+use borrow.Author.Tests.{ne_eqb}
 use Rattle.sheet.specs.Rows.{is_claim, claims_fine}
 use Rattle.sheet.proofs.claims_fine.Goals as goal
 

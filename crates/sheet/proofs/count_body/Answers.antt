@@ -2,7 +2,6 @@
 use Prim.Native.Nat.{◌≤◌}
 use native.Mathlib.Omega.{arith}
 use lib.ListN.{length}
-use borrow.Author.Rules.{rules}
 use Rattle.sheet_header.specs.Header.{row_at}
 use Rattle.sheet.proofs.Rows.{rows-within}
 use Rattle.sheet.proofs.Outcomes.{bad-count, counts_all}

@@ -1,9 +1,8 @@
 use mathlib.Core.Path.{◌≡◌, sym, ◌∙◌}
-use Prim.Native.Nat.{◌+◌, ◌-◌, ◌*◌, ◌≤◌}
+use Prim.Native.Nat.{◌+◌, ◌*◌}
 use native.Mathlib.Omega.{arith}
-use borrow.Author.Tests.{not-true, not-false}
 use Rattle.matrices.proofs.Lengths.{row_room}
-use Rattle.sheet.proofs.Remaining.{place, none, place-next, place-most}
+use Rattle.sheet.proofs.Remaining.{none, place-next, place-most}
 use Rattle.sheet.proofs.count_remaining.Goals as goal
 use Rattle.sheet.proofs.count_remaining.Goals.{then-not-is_cancelled, else-not-is_cancelled}
 

@@ -1,11 +1,7 @@
 -- `sheet::count_remaining` meets its contract. The invariant: `left` of the first i rows remain. The measure: n - i. Assumes nothing.
-use mathlib.Core.Path.{◌≡◌, sym, ◌∙◌}
-use mathlib.Core.Logic.{⊎_elim}
-use Prim.Native.Nat.{◌+◌, ◌-◌, ◌*◌, ◌≤◌}
-use native.Mathlib.Omega.{arith}
-use borrow.Author.Tests.{not-true, not-false}
-use Rattle.matrices.proofs.Lengths.{row_room}
-use Rattle.sheet.proofs.Remaining.{place, none, place-next, place-most}
+use mathlib.Core.Path.{◌≡◌}
+use Prim.Native.Nat.{◌-◌, ◌≤◌}
+use Rattle.sheet.proofs.Remaining.{place}
 use Rattle.sheet.proofs.count_remaining.Given as goal
 
 abbrev pub invariant-loop-i : goal.invariant-loop-i

@@ -1,7 +1,6 @@
 -- `sheet::count_rows` meets its contract: the part that is lent is the body. Assumes nothing.
 use Prim.Native.Nat.{◌≤◌}
 use native.Mathlib.Omega.{arith}
-use borrow.Author.Rules.{rules}
 use lib.ListN.{length}
 use Rattle.sheet_front.specs.Front.{body_of}
 use Rattle.sheet_header.proofs.Passed.{body-lent, Laid, body-begun, body-within, laid-fine}

@@ -1,7 +1,6 @@
 -- `sheet::fill_features` meets its contract. The invariant: the first j features are written, and all else is as it was. The measure: p - j. Assumes nothing.
 use Prim.Native.Nat.{◌+◌, ◌-◌, ◌*◌}
-use native.Mathlib.Omega.{arith}
-use Rattle.arrays.proofs.Turns.{Made, made_none, made_more, made_all}
+use Rattle.arrays.proofs.Turns.{Made}
 use Rattle.big_endian.specs.Bytes.{float_at}
 use Rattle.sheet.proofs.fill_features.Given as goal
 

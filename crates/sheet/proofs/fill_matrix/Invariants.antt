@@ -1,19 +1,13 @@
 -- `sheet::fill_matrix` meets its contract. The invariant: k of the first i rows remain, and they are the first k of the matrix. The measure: n - i. Assumes nothing.
-use mathlib.Core.Path.{◌≡◌, refl, sym, ◌∙◌}
-use mathlib.Core.Bool.{Bool, true, false, cond}
+use mathlib.Core.Path.{◌≡◌}
 use mathlib.Core.List.{List}
-use Prim.Native.Nat.{ℕ, ◌+◌, ◌-◌, ◌*◌, ◌≤◌, ◌<◌}
-use native.Mathlib.Nat.{zero-add}
-use native.Mathlib.Omega.{arith}
+use Prim.Native.Nat.{ℕ, ◌-◌, ◌≤◌}
 use lib.ListN.{length, get_or}
 use lib.Ieee.{Float}
-use Rattle.arrays.specs.Part.{put, tab}
-use Rattle.arrays.proofs.Part.{put_all}
+use Rattle.arrays.specs.Part.{put}
 use Rattle.matrices.specs.Grid.{grid}
-use Rattle.matrices.proofs.Grid.{length-grid, put-grid-none, put-grid-more}
-use Rattle.matrices.proofs.Lengths.{row_room}
-use Rattle.sheet.specs.Rows.{feature_of, cancelled, remaining, matrix_of}
-use Rattle.sheet.proofs.Remaining.{place, none, place-next, place-most, room_for, stands-there}
+use Rattle.sheet.specs.Rows.{feature_of, remaining}
+use Rattle.sheet.proofs.Remaining.{place}
 use Rattle.sheet.proofs.fill_matrix.Given as goal
 
 -- an entry of the matrix of n rows

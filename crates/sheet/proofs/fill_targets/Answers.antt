@@ -1,11 +1,11 @@
 use mathlib.Core.Path.{◌≡◌, refl, sym, ◌∙◌}
 use mathlib.Core.Bool.{Bool, true, false, cond}
 use mathlib.Core.List.{List}
-use Prim.Native.Nat.{ℕ, ◌+◌, ◌-◌, ◌*◌, ◌≤◌, ◌<◌}
+use Prim.Native.Nat.{ℕ, ◌+◌, ◌*◌, ◌<◌}
 use native.Mathlib.Omega.{arith}
 use lib.ListN.{get_or, set}
 use lib.Ieee.{Float}
-use Rattle.arrays.proofs.Turns.{Made, made_none, array-more, array-all}
+use Rattle.arrays.proofs.Turns.{made_none, array-more, array-all}
 use Rattle.matrices.proofs.Lengths.{row_room}
 use Rattle.sheet.specs.Rows.{score_of, cancelled, remaining, targets_of}
 use Rattle.sheet.proofs.Remaining.{place, none, place-next, room_for, stands-there}

@@ -1,16 +1,13 @@
 -- `sheet::fill_targets` meets its contract. The invariant: k of the first i rows remain, and their scores are the first k targets. The measure: n - i.
 -- Assumes nothing.
-use mathlib.Core.Path.{◌≡◌, refl, sym, ◌∙◌}
-use mathlib.Core.Bool.{Bool, true, false, cond}
+use mathlib.Core.Path.{◌≡◌}
 use mathlib.Core.List.{List}
-use Prim.Native.Nat.{ℕ, ◌+◌, ◌-◌, ◌*◌, ◌≤◌, ◌<◌}
-use native.Mathlib.Omega.{arith}
-use lib.ListN.{get_or, set}
+use Prim.Native.Nat.{ℕ, ◌-◌, ◌≤◌}
+use lib.ListN.{get_or}
 use lib.Ieee.{Float}
-use Rattle.arrays.proofs.Turns.{Made, made_none, array-more, array-all}
-use Rattle.matrices.proofs.Lengths.{row_room}
-use Rattle.sheet.specs.Rows.{score_of, cancelled, remaining, targets_of}
-use Rattle.sheet.proofs.Remaining.{place, none, place-next, room_for, stands-there}
+use Rattle.arrays.proofs.Turns.{Made}
+use Rattle.sheet.specs.Rows.{score_of, remaining}
+use Rattle.sheet.proofs.Remaining.{place}
 use Rattle.sheet.proofs.fill_targets.Given as goal
 
 -- the first k targets of n rows are written

@@ -1,5 +1,4 @@
 -- `sheet::is_cancelled` meets its contract. Assumes nothing.
-use native.Mathlib.Omega.{arith}
 use Rattle.sheet.proofs.is_cancelled.Goals as goal
 
 pub returns : goal.returns

@@ -2,9 +2,7 @@
 use mathlib.Core.Path.{◌≡◌, ap, ◌∙◌}
 use mathlib.Core.List.{List}
 use Prim.Native.Nat.{ℕ, ◌*◌, ◌≤◌}
-use native.Mathlib.Omega.{arith}
 use lib.ListN.{length}
-use borrow.Author.Rules.{rules}
 use Rattle.sheet_header.specs.Header.{n_of, p_of, row_at}
 use Rattle.sheet.specs.Rows.{remaining}
 use Rattle.sheet.specs.Sheet.{remains}

@@ -1,7 +1,6 @@
 -- `sheet::read_sheet` meets its contract: what was counted is the header of the part that is lent. Assumes nothing.
 use Prim.Native.Nat.{◌≤◌}
 use native.Mathlib.Omega.{arith}
-use borrow.Author.Rules.{rules}
 use lib.ListN.{length}
 use Rattle.sheet_front.specs.Front.{body_of}
 use Rattle.sheet_header.proofs.Passed.{body-lent, Laid, body-begun, body-within}

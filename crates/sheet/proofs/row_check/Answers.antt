@@ -1,8 +1,6 @@
 -- `sheet::row_check` meets its contract: each return is the first test that fails. Assumes nothing.
 use mathlib.Core.Path.{◌≡◌, sym, ◌∙◌}
 use mathlib.Core.Bool.{true}
-use native.Mathlib.Omega.{arith}
-use borrow.Author.Tests.{not-true, not-false}
 use Rattle.sheet.specs.Rows.{pairs_from}
 use Rattle.sheet.proofs.Rows.{claims}
 use Rattle.sheet.proofs.row_check.Goals as goal

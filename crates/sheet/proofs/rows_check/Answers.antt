@@ -1,9 +1,7 @@
 use mathlib.Core.Path.{◌≡◌, sym, ◌∙◌}
-use Prim.Native.Nat.{◌+◌, ◌-◌, ◌*◌, ◌≤◌}
+use Prim.Native.Nat.{◌+◌, ◌-◌, ◌*◌}
 use native.Mathlib.Omega.{arith}
-use borrow.Author.Rules.{rules}
 use Rattle.matrices.proofs.Lengths.{row_room}
-use Rattle.sheet.specs.Rows.{rows_from}
 use Rattle.sheet.proofs.Rows.{row-passed, row-refused, none_left}
 use Rattle.sheet.proofs.rows_check.Goals as goal
 

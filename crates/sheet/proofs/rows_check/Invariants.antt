@@ -1,11 +1,7 @@
 -- `sheet::rows_check` meets its contract. The invariant: the answer is that of the rows that are left, from i on. The measure: n - i. Assumes nothing.
-use mathlib.Core.Path.{◌≡◌, sym, ◌∙◌}
-use Prim.Native.Nat.{◌+◌, ◌-◌, ◌*◌, ◌≤◌}
-use native.Mathlib.Omega.{arith}
-use borrow.Author.Rules.{rules}
-use Rattle.matrices.proofs.Lengths.{row_room}
+use mathlib.Core.Path.{◌≡◌}
+use Prim.Native.Nat.{◌-◌, ◌≤◌}
 use Rattle.sheet.specs.Rows.{rows_from}
-use Rattle.sheet.proofs.Rows.{row-passed, row-refused, none_left}
 use Rattle.sheet.proofs.rows_check.Given as goal
 
 abbrev pub invariant-loop-i : goal.invariant-loop-i

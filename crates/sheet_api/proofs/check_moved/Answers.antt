@@ -1,5 +1,4 @@
 -- `sheet_api::check_moved` meets its contract. Assumes nothing.
-use native.Mathlib.Omega.{arith}
 use Rattle.sheet_api.proofs.check_moved.Goals as goal
 
 pub returns-in-Sheet : goal.returns-in-Sheet

@@ -1,5 +1,4 @@
 -- `sheet_api::check_written` meets its contract. Assumes nothing.
-use native.Mathlib.Omega.{arith}
 use Rattle.sheet_api.proofs.check_written.Goals as goal
 
 pub returns-in-Sheet : goal.returns-in-Sheet

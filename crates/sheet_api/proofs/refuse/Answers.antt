@@ -1,5 +1,4 @@
 -- `sheet_api::refuse` meets its contract: the two slices lent are empty, so nothing can be written. Assumes nothing.
-use borrow.Author.Rules.{rules}
 use Rattle.sheet_api.proofs.Calls.{refused-told}
 use Rattle.sheet_api.proofs.refuse.Goals as goal
 

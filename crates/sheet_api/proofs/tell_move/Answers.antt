@@ -1,5 +1,4 @@
 -- `sheet_api::tell_move` meets its contract. Assumes nothing.
-use native.Mathlib.Omega.{arith}
 use Rattle.sheet_api.proofs.tell_move.Goals as goal
 
 pub returns : goal.returns

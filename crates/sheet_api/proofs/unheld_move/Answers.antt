@@ -1,5 +1,4 @@
 -- `sheet_api::unheld_move` meets its contract. Assumes nothing.
-use native.Mathlib.Omega.{arith}
 use Rattle.sheet_api.proofs.unheld_move.Goals as goal
 
 pub returns-in-Fine : goal.returns-in-Fine

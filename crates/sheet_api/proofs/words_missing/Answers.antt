@@ -1,7 +1,6 @@
 -- `sheet_api::words_missing` meets its contract: each return is the first test that fails. Assumes nothing.
 use mathlib.Core.Path.{sym, ◌∙◌}
 use native.Mathlib.Omega.{arith}
-use borrow.Author.Tests.{not-true, not-false}
 use Rattle.sheet_front.proofs.Front.{front-range}
 use Rattle.sheet_api.specs.Writing.{unwritten}
 use Rattle.sheet_api.proofs.words_missing.Goals as goal

@@ -1,7 +1,6 @@
 -- `sheet_api::write_in` meets its contract: one return where words are missing, and one where they are there. Assumes nothing.
 use mathlib.Core.Path.{◌≡◌, sym, ◌∙◌}
 use mathlib.Core.Bool.{true, ◌&&◌}
-use borrow.Author.Tests.{not-true, not-false}
 use lib.Dec.{eqb}
 use lib.ListN.{length}
 use Rattle.c_values.specs.Settings.{settings-words}

@@ -1,8 +1,6 @@
 -- `sheet_api::xangoravit_count_rows` meets its contract: one return where header or place has the wrong length, and one where both are right. Assumes nothing.
 use mathlib.Core.Path.{◌≡◌, sym, ◌∙◌}
 use mathlib.Core.Bool.{true}
-use borrow.Author.Rules.{rules}
-use borrow.Author.Tests.{not-true, not-false}
 use lib.ListN.{length}
 use Rattle.sheet_api.proofs.Calls.{Due, due-header, count-not-due, count-due}
 use Rattle.sheet_api.proofs.xangoravit_count_rows.Goals as goal

@@ -1,7 +1,6 @@
 -- `sheet_api::xangoravit_move_up` meets its contract: one return where words are missing, and one where they are there. Assumes nothing.
 use mathlib.Core.Path.{◌≡◌, sym, ap, ◌∙◌}
 use mathlib.Core.Bool.{true, ◌&&◌}
-use borrow.Author.Tests.{not-true, not-false}
 use lib.Dec.{eqb}
 use lib.ListN.{length}
 use Rattle.sheet_move.specs.Move.{up_check, up_move}

@@ -1,6 +1,5 @@
 -- `sheet_api::xangoravit_read_header` meets its contract: one return where the header has the wrong length, and one where it is right. Assumes nothing.
 use Rattle.sheet_api.proofs.Calls.{header-not-due, header-due}
-use borrow.Author.Rules.{rules}
 use Rattle.sheet_api.proofs.xangoravit_read_header.Goals as goal
 
 pub returns-then-header-ne-HEADER_WORDS : goal.returns-then-header-ne-HEADER_WORDS

@@ -1,6 +1,4 @@
 -- `sheet_fit::answered` meets its contract. Assumes nothing.
-use native.Mathlib.Omega.{arith}
-use borrow.Author.Rules.{rules}
 use Rattle.sheet_fit.proofs.Returns.{same_text, done-text, refused-text}
 use Rattle.sheet_fit.proofs.answered.Goals as goal
 

@@ -1,13 +1,11 @@
 use mathlib.Core.Path.{◌≡◌, refl, sym, ◌∙◌}
 use mathlib.Core.List.{List}
-use Prim.Native.Nat.{ℕ, ◌+◌, ◌-◌, ◌≤◌}
+use Prim.Native.Nat.{ℕ, ◌+◌}
 use native.Mathlib.Nat.{zero-add}
 use native.Mathlib.Omega.{arith}
-use lib.ListN.{length, set, length-set}
-use lib.Ieee.{binary64, to_bits}
+use lib.ListN.{set, length-set}
 use Rattle.arrays.specs.Part.{put, tab}
 use Rattle.arrays.proofs.Part.{length-tab, put_all, put-tab-none, put-tab-more}
-use Rattle.arrays.specs.Sums.{◌!◌}
 use Rattle.sheet_fit.specs.SheetFit.{bits_of}
 use Rattle.sheet_fit.proofs.bits_from.Goals as goal
 

@@ -1,16 +1,11 @@
 -- `sheet_fit::bits_from` meets its contract. The invariant: the bits of the first j weights are written, and the other words are as they were.
 -- The measure: p - j. Assumes nothing.
-use mathlib.Core.Path.{◌≡◌, refl, sym, ◌∙◌}
-use mathlib.Core.List.{List}
-use Prim.Native.Nat.{ℕ, ◌+◌, ◌-◌, ◌≤◌}
-use native.Mathlib.Nat.{zero-add}
-use native.Mathlib.Omega.{arith}
-use lib.ListN.{length, set, length-set}
+use mathlib.Core.Path.{◌≡◌}
+use Prim.Native.Nat.{◌-◌, ◌≤◌}
+use lib.ListN.{length}
 use lib.Ieee.{binary64, to_bits}
 use Rattle.arrays.specs.Part.{put, tab}
-use Rattle.arrays.proofs.Part.{length-tab, put_all, put-tab-none, put-tab-more}
 use Rattle.arrays.specs.Sums.{◌!◌}
-use Rattle.sheet_fit.specs.SheetFit.{bits_of}
 use Rattle.sheet_fit.proofs.bits_from.Given as goal
 
 abbrev pub invariant-loop-j : goal.invariant-loop-j

@@ -1,6 +1,5 @@
 -- `sheet_fit::ended` meets its contract. Assumes nothing.
 use mathlib.Core.Path.{◌∙◌}
-use native.Mathlib.Omega.{arith}
 use Rattle.sheet_fit.proofs.Returns.{done-few}
 use Rattle.sheet_fit.proofs.ended.Goals as goal
 

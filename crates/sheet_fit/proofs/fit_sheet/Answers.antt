@@ -1,6 +1,4 @@
 -- `sheet_fit::fit_sheet` meets its contract: each return is that of the first test that fails, or the text of the fit. Assumes nothing.
-use native.Mathlib.Omega.{arith}
-use borrow.Author.Rules.{rules}
 use Rattle.sheet_fit.proofs.Returns.{same_text, header_is, many-bytes, header_refused, header-sized}
 use Rattle.sheet_fit.proofs.fit_sheet.Goals as goal
 

@@ -1,6 +1,4 @@
 -- `sheet_fit::fitted` meets its contract: the local arrays are all +0, as the text's definition has them. Assumes nothing.
-use native.Mathlib.Omega.{arith}
-use borrow.Author.Rules.{rules}
 use Rattle.sheet_fit.proofs.Returns.{same_text, fit-text, all-zeros, zeros}
 use Rattle.sheet_fit.proofs.fitted.Goals as goal
 

@@ -1,5 +1,4 @@
 -- `sheet_fit::fitted_in` meets its contract. Assumes nothing.
-use native.Mathlib.Omega.{arith}
 use Rattle.sheet_fit.proofs.Returns.{same_text, whole-text}
 use Rattle.sheet_fit.proofs.fitted_in.Goals as goal
 

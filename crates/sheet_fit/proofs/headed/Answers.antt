@@ -1,6 +1,5 @@
 -- `sheet_fit::headed` meets its contract: no more rows remain than the two size tests let through. Assumes nothing.
 use native.Mathlib.Omega.{arith}
-use borrow.Author.Rules.{rules}
 use Rattle.sheet_fit.proofs.Returns.{same_text, many-rows, many-features, count-refused, count-lent, count-is}
 use Rattle.sheet_fit.proofs.headed.Goals as goal
 

@@ -1,6 +1,5 @@
 -- `sheet_fit::read_in` meets its contract: a sheet that is read has the p of its header, so at most 16. Assumes nothing.
 use native.Mathlib.Omega.{arith}
-use borrow.Author.Rules.{rules}
 use Rattle.sheet_fit.proofs.Returns.{same_text, sheet-is, read-refused, read-fitted}
 use Rattle.sheet_fit.proofs.read_in.Goals as goal
 

@@ -1,5 +1,4 @@
 -- `sheet_fit::refused` meets its contract. Assumes nothing.
-use native.Mathlib.Omega.{arith}
 use Rattle.sheet_fit.proofs.refused.Goals as goal
 
 pub returns : goal.returns

@@ -1,5 +1,4 @@
 -- `sheet_front::body_at` meets its contract. Assumes nothing.
-use native.Mathlib.Omega.{arith}
 use borrow.Author.Tests.{eq-eqb, ne_eqb}
 use Rattle.sheet_front.proofs.body_at.Goals as goal
 

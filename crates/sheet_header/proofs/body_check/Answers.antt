@@ -8,7 +8,7 @@ use native.Mathlib.Nat.{mul-le-mul}
 use native.Mathlib.Omega.{arith}
 use lib.Dec.{eqb}
 use lib.ListN.{length}
-use borrow.Author.Tests.{eq-eqb, ne_eqb, not-true, not-false}
+use borrow.Author.Tests.{eq-eqb, ne_eqb}
 use Rattle.sheet_header.specs.Header.{n_of, p_of, row_at, body_check}
 use Rattle.sheet_header.proofs.Passed.{Laid}
 use Rattle.sheet_header.proofs.body_check.Goals as goal

@@ -1,5 +1,4 @@
 -- `sheet_header::header_of` meets its contract. Assumes nothing.
-use native.Mathlib.Omega.{arith}
 use Rattle.sheet_header.specs.Header.{header_of}
 use Rattle.sheet_header.proofs.header_of.Goals as goal
 

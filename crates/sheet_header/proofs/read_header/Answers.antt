@@ -1,7 +1,6 @@
 -- `sheet_header::read_header` meets its contract: a header that passes is long enough to be read. Assumes nothing.
 use Prim.Native.Nat.{◌≤◌}
 use native.Mathlib.Omega.{arith}
-use borrow.Author.Rules.{rules}
 use lib.ListN.{length}
 use Rattle.sheet_front.specs.Front.{body_of}
 use Rattle.sheet_header.proofs.Passed.{lent-from, body-lent, Laid, body-begun, body-within, laid-fine}

@@ -1,5 +1,4 @@
 -- `sheet_words::answer_read` meets its contract. Assumes nothing.
-use borrow.Author.Rules.{rules}
 use Rattle.sheet_words.proofs.answer_read.Goals as goal
 
 pub returns : goal.returns

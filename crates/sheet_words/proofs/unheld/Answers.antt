@@ -1,5 +1,4 @@
 -- `sheet_words::unheld` meets its contract. Assumes nothing.
-use borrow.Author.Rules.{rules}
 use Rattle.sheet_words.proofs.unheld.Goals as goal
 
 pub returns-in-Sheet : goal.returns-in-Sheet

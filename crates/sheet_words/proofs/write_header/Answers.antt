@@ -1,5 +1,4 @@
 -- `sheet_words::write_header` meets its contract. Assumes nothing.
-use borrow.Author.Rules.{rules}
 use Rattle.sheet_words.proofs.write_header.Goals as goal
 
 pub returns-in-Sheet : goal.returns-in-Sheet

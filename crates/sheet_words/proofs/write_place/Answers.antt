@@ -1,5 +1,4 @@
 -- `sheet_words::write_place` meets its contract. Assumes nothing.
-use borrow.Author.Rules.{rules}
 use borrow.Author.Tests.{ne_eqb}
 use Rattle.sheet_words.proofs.Words.{place-written}
 use Rattle.sheet_words.proofs.write_place.Goals as goal

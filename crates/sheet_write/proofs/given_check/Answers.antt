@@ -1,11 +1,10 @@
 -- `sheet_write::given_check` meets its contract: each return is the first test that fails. Assumes nothing.
 use mathlib.Core.Path.{◌≡◌, sym, ◌∙◌}
 use mathlib.Core.Bool.{true}
-use borrow.Author.Tests.{not-true, not-false}
 use Rattle.refusal.specs.Sizes.{in_size}
 use Rattle.refusal.proofs.Sizes.{size_of}
 use Rattle.settings.specs.Settings.{allowed_of}
-use Rattle.sheet_write.specs.Write.{Given, given, lengths_fine, given_check}
+use Rattle.sheet_write.specs.Write.{given, lengths_fine, given_check}
 use Rattle.sheet_write.proofs.Checks.{measured}
 use Rattle.sheet_write.proofs.given_check.Goals as goal
 

@@ -4,7 +4,6 @@ use mathlib.Core.Bool.{true}
 use native.Mathlib.Omega.{arith}
 use lib.ListN.{get_or}
 use lib.Ieee.{binary64, to_bits}
-use borrow.Author.Tests.{not-true, not-false}
 use Rattle.arrays.specs.Sums.{◌!◌}
 use Rattle.sheet.specs.Rows.{claims_fine, pairs_from}
 use Rattle.sheet_write.proofs.pair_check.Goals as goal

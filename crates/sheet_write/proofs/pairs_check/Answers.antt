@@ -1,15 +1,7 @@
 use mathlib.Core.Path.{◌≡◌, sym, ◌∙◌}
-use mathlib.Core.List.{List}
-use Prim.Native.Nat.{ℕ, ◌-◌, ◌≤◌}
+use Prim.Native.Nat.{◌-◌}
 use native.Mathlib.Omega.{arith}
-use lib.ListN.{get_or}
-use lib.Ieee.{Float, binary64, to_bits}
-use borrow.Author.Rules.{rules}
-use Rattle.arrays.specs.Sums.{◌!◌}
-use Rattle.refusal.specs.declared.Checked.{Checked}
-use Rattle.sheet.specs.Rows.{pairs_from}
 use Rattle.sheet.proofs.Rows.{row-passed, row-refused, none_left}
-use Rattle.sheet_write.proofs.pairs_check.Invariants.{pairs}
 use Rattle.sheet_write.proofs.pairs_check.Goals as goal
 
 pub loop-i-init : goal.loop-i-init

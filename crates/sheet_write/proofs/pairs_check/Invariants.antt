@@ -1,16 +1,13 @@
 -- `sheet_write::pairs_check` meets its contract. The invariant: the answer is that of the rows that are left, from i on. The measure: n - i.
 -- Assumes nothing.
-use mathlib.Core.Path.{◌≡◌, sym, ◌∙◌}
+use mathlib.Core.Path.{◌≡◌}
 use mathlib.Core.List.{List}
 use Prim.Native.Nat.{ℕ, ◌-◌, ◌≤◌}
-use native.Mathlib.Omega.{arith}
 use lib.ListN.{get_or}
 use lib.Ieee.{Float, binary64, to_bits}
-use borrow.Author.Rules.{rules}
 use Rattle.arrays.specs.Sums.{◌!◌}
 use Rattle.refusal.specs.declared.Checked.{Checked}
 use Rattle.sheet.specs.Rows.{pairs_from}
-use Rattle.sheet.proofs.Rows.{row-passed, row-refused, none_left}
 use Rattle.sheet_write.proofs.pairs_check.Given as goal
 
 abbrev pub pairs : List ℕ → List ℕ → List Float → ℕ → ℕ → Checked

@@ -1,12 +1,6 @@
 use mathlib.Core.Path.{◌≡◌, refl}
-use Prim.Native.Nat.{◌+◌, ◌-◌, ◌≤◌}
 use native.Mathlib.Omega.{arith}
-use lib.ListN.{length}
-use Rattle.arrays.specs.Part.{put}
-use Rattle.arrays.specs.Sums.{◌!◌}
-use Rattle.big_endian.specs.Bytes.{float_bytes}
 use Rattle.big_endian.proofs.Bytes.{length-bytes}
-use Rattle.sheet_write.specs.Write.{joined}
 use Rattle.sheet_write.proofs.Joined.{joined-begun, joined-put}
 use Rattle.sheet_write.proofs.write_features.Goals as goal
 

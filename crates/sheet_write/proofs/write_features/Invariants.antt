@@ -1,15 +1,12 @@
 -- `sheet_write::write_features` meets its contract. The invariant: the bytes of the first j features are written, and all else is as it was.
 -- The measure: p - j. Assumes nothing.
-use mathlib.Core.Path.{◌≡◌, refl}
+use mathlib.Core.Path.{◌≡◌}
 use Prim.Native.Nat.{◌+◌, ◌-◌, ◌≤◌}
-use native.Mathlib.Omega.{arith}
 use lib.ListN.{length}
 use Rattle.arrays.specs.Part.{put}
 use Rattle.arrays.specs.Sums.{◌!◌}
 use Rattle.big_endian.specs.Bytes.{float_bytes}
-use Rattle.big_endian.proofs.Bytes.{length-bytes}
 use Rattle.sheet_write.specs.Write.{joined}
-use Rattle.sheet_write.proofs.Joined.{joined-begun, joined-put}
 use Rattle.sheet_write.proofs.write_features.Given as goal
 
 abbrev pub invariant-loop-j : goal.invariant-loop-j

@@ -1,11 +1,8 @@
 use mathlib.Core.Path.{◌≡◌, refl}
-use Prim.Native.Nat.{◌+◌, ◌-◌, ◌*◌, ◌≤◌}
+use Prim.Native.Nat.{◌+◌, ◌*◌, ◌≤◌}
 use native.Mathlib.Omega.{arith}
-use lib.ListN.{length}
-use Rattle.arrays.specs.Part.{put}
 use Rattle.matrices.proofs.Lengths.{row_room}
 use Rattle.sheet_header.specs.Header.{row-bytes}
-use Rattle.sheet_write.specs.Write.{rows_bytes}
 use Rattle.sheet_write.proofs.Joined.{joined-begun, joined-put}
 use Rattle.sheet_write.proofs.Lengths.{row-long}
 use Rattle.sheet_write.proofs.write_rows.Goals as goal

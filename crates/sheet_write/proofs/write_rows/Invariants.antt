@@ -1,15 +1,10 @@
 -- `sheet_write::write_rows` meets its contract. The invariant: the bytes of the first i rows are written, and all else is as it was. The measure: n - i.
 -- Assumes nothing.
-use mathlib.Core.Path.{◌≡◌, refl}
-use Prim.Native.Nat.{◌+◌, ◌-◌, ◌*◌, ◌≤◌}
-use native.Mathlib.Omega.{arith}
+use mathlib.Core.Path.{◌≡◌}
+use Prim.Native.Nat.{◌-◌, ◌≤◌}
 use lib.ListN.{length}
 use Rattle.arrays.specs.Part.{put}
-use Rattle.matrices.proofs.Lengths.{row_room}
-use Rattle.sheet_header.specs.Header.{row-bytes}
 use Rattle.sheet_write.specs.Write.{rows_bytes}
-use Rattle.sheet_write.proofs.Joined.{joined-begun, joined-put}
-use Rattle.sheet_write.proofs.Lengths.{row-long}
 use Rattle.sheet_write.proofs.write_rows.Given as goal
 
 abbrev pub invariant-loop-i : goal.invariant-loop-i

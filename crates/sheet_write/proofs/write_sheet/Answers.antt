@@ -3,11 +3,10 @@ use mathlib.Core.Path.{sym, ◌∙◌}
 use Prim.Native.Nat.{◌+◌, ◌^◌, ◌≤◌, ◌<◌}
 use native.Mathlib.Omega.{arith}
 use lib.ListN.{length}
-use borrow.Author.Rules.{rules}
-use borrow.Author.Tests.{leb-true, not-true, not-false}
+use borrow.Author.Tests.{leb-true}
 use Rattle.sheet_front.proofs.Front.{front-range}
 use Rattle.sheet_header.specs.Header.{row_at}
-use Rattle.sheet_write.specs.Write.{Given, given}
+use Rattle.sheet_write.specs.Write.{given}
 use Rattle.sheet_write.proofs.Checks.{Passed, passed}
 use Rattle.sheet_write.proofs.Outcomes.{no_room, bad-given, all-written}
 use Rattle.sheet_write.proofs.write_sheet.Goals as goal

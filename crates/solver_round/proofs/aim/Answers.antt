@@ -1,5 +1,4 @@
 -- `solver_round::aim` meets its contract. Assumes nothing.
-use native.Mathlib.Omega.{arith}
 use Rattle.solver_round.proofs.Returns.{aim-is}
 use Rattle.solver_round.proofs.aim.Goals as goal
 

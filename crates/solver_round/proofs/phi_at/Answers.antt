@@ -1,5 +1,4 @@
 -- `solver_round::phi_at` meets its contract. Assumes nothing.
-use native.Mathlib.Omega.{arith}
 use Rattle.solver_round.proofs.Returns.{phi-is}
 use Rattle.solver_round.proofs.phi_at.Goals as goal
 

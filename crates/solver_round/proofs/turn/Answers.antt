@@ -1,5 +1,4 @@
 -- `solver_round::turn` meets its contract. Assumes nothing.
-use borrow.Author.Rules.{rules}
 use Rattle.solver_round.proofs.Returns.{did-turn}
 use Rattle.solver_round.proofs.turn.Goals as goal
 

@@ -1,5 +1,4 @@
 -- `stages::opening_step` meets its contract: one return for each answer of `open`. Assumes nothing.
-use borrow.Author.Rules.{rules}
 use Rattle.pause.specs.Parts.{round+}
 use Rattle.records.specs.Record.{counts_of}
 use Rattle.stages.proofs.Moves.{opening-ready, opening-done, opening-fails}

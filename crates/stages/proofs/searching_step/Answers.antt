@@ -1,7 +1,6 @@
 -- `stages::searching_step` meets its contract: a trial that is not taken halves or, as the hundredth, fails; else the next round or the limit follows.
 -- Assumes nothing.
 use native.Mathlib.Omega.{arith}
-use borrow.Author.Rules.{rules}
 use Rattle.pause.specs.Parts.{trial+}
 use Rattle.records.specs.Record.{counts_of}
 use Rattle.stages.proofs.Moves.{searching-again, searching-none, searching-next, searching-limit}

@@ -1,5 +1,4 @@
 -- `stages::solving_step` meets its contract: the search begins where the solver stops, or after round 4,999. Assumes nothing.
-use borrow.Author.Rules.{rules}
 use Rattle.pause.specs.Parts.{solver+}
 use Rattle.design_products.proofs.Lengths.{held_on}
 use Rattle.records.specs.Record.{counts_of}

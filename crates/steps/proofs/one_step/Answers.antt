@@ -1,5 +1,4 @@
 -- `steps::one_step` meets its contract. An ended record is none that a step may take. Assumes nothing.
-use borrow.Author.Rules.{rules}
 use Rattle.steps.proofs.ByStage.{by-stage, sane-at, opening-known}
 use Rattle.steps.proofs.one_step.Goals as goal
 

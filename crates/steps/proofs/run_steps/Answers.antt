@@ -1,9 +1,8 @@
 use native.Mathlib.Omega.{arith}
-use borrow.Author.Rules.{rules}
 use mathlib.Core.Path.{refl}
 use Rattle.design_products.proofs.Lengths.{held_on}
 use Rattle.steps.proofs.Known.{unknown}
-use Rattle.steps.proofs.Loop.{Running, went_on, stopped, spent}
+use Rattle.steps.proofs.Loop.{went_on, stopped, spent}
 use Rattle.steps.proofs.run_steps.Goals as goal
 
 pub loop-left-init : goal.loop-left-init

@@ -1,11 +1,6 @@
 -- `steps::run_steps` meets its contract. The invariant: `left` steps from `cur` give what the budget gives from the first record, a step may take `cur`, and
 -- where `known` says so, newz holds what an opening of `cur` would make. The measure: left. Assumes nothing.
-use native.Mathlib.Omega.{arith}
-use borrow.Author.Rules.{rules}
-use mathlib.Core.Path.{refl}
-use Rattle.design_products.proofs.Lengths.{held_on}
-use Rattle.steps.proofs.Known.{unknown}
-use Rattle.steps.proofs.Loop.{Running, went_on, stopped, spent}
+use Rattle.steps.proofs.Loop.{Running}
 use Rattle.steps.proofs.run_steps.Given as goal
 
 abbrev pub invariant-loop-left : goal.invariant-loop-left

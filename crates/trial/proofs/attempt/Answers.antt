@@ -1,5 +1,4 @@
 -- `trial::attempt` meets its contract: one return where the new point is inside, by `decide`, and one where the step is halved. Assumes nothing.
-use borrow.Author.Rules.{rules}
 use Rattle.design_products.proofs.Lengths.{held_on}
 use Rattle.trial.proofs.Returns.{inside, outside}
 use Rattle.trial.proofs.attempt.Goals as goal

@@ -1,5 +1,4 @@
 -- `trial::decide` meets its contract: one return for each side of the decrease test. Assumes nothing.
-use borrow.Author.Rules.{rules}
 use Rattle.layout.specs.Slots.{vars}
 use Rattle.lasso_optimizer.specs.Trial.{newz_store}
 use Rattle.trial.proofs.Returns.{accepted, refused}

@@ -1,5 +1,4 @@
 -- `trial::move_on` meets its contract. Assumes nothing.
-use borrow.Author.Rules.{rules}
 use Rattle.layout.specs.Slots.{words}
 use Rattle.layout.proofs.Slots.{start}
 use Rattle.trial.proofs.Stores.{moved}

@@ -1,5 +1,4 @@
 -- `trial::newphi` meets its contract. Assumes nothing.
-use borrow.Author.Rules.{rules}
 use Rattle.trial.proofs.Returns.{phi-is}
 use Rattle.trial.proofs.newphi.Goals as goal
 

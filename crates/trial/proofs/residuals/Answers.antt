@@ -1,5 +1,4 @@
 -- `trial::residuals` meets its contract. Assumes nothing.
-use borrow.Author.Rules.{rules}
 use native.Mathlib.Omega.{arith}
 use Rattle.layout.specs.Slots.{words}
 use Rattle.layout.proofs.Slots.{start}

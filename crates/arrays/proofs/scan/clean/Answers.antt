@@ -1,8 +1,8 @@
-use mathlib.Core.Path.{◌≡◌, refl, sym, ◌∙◌}
-use Prim.Native.Nat.{◌-◌, ◌≤◌, ◌<◌}
+use mathlib.Core.Path.{refl, sym, ◌∙◌}
+use Prim.Native.Nat.{◌<◌}
 use native.Mathlib.Omega.{arith}
 use lib.ListN.{length}
-use Rattle.arrays.proofs.Scans.{Scanned, scanned-none, scanned-bad, scanned-good, scanned-all, denied, granted}
+use Rattle.arrays.proofs.Scans.{scanned-none, scanned-bad, scanned-good, scanned-all}
 use Rattle.arrays.proofs.scan.clean.Goals as goal
 use Rattle.arrays.proofs.scan.clean.Goals.{then-not-finite, else-not-finite}
 

@@ -1,11 +1,9 @@
 -- `arrays::scan::clean` meets its contract. The invariant: while all is good, what is left from i on gives the whole scan's answer; else that is not clean.
 -- The measure: the length less i. Assumes nothing.
-use mathlib.Core.Path.{◌≡◌, refl, sym, ◌∙◌}
-use mathlib.Core.Logic.{⊎_elim}
-use Prim.Native.Nat.{◌-◌, ◌≤◌, ◌<◌}
-use native.Mathlib.Omega.{arith}
+use mathlib.Core.Path.{◌≡◌}
+use Prim.Native.Nat.{◌-◌, ◌≤◌}
 use lib.ListN.{length}
-use Rattle.arrays.proofs.Scans.{Scanned, scanned-none, scanned-bad, scanned-good, scanned-all, denied, granted}
+use Rattle.arrays.proofs.Scans.{Scanned}
 use Rattle.arrays.proofs.scan.clean.Given as goal
 
 abbrev pub invariant-loop-i : goal.invariant-loop-i

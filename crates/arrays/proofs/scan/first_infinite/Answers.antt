@@ -1,8 +1,5 @@
-use mathlib.Core.Path.{◌≡◌, refl, sym, ◌∙◌}
-use Prim.Native.Nat.{◌-◌, ◌≤◌}
+use mathlib.Core.Path.{refl, sym, ◌∙◌}
 use native.Mathlib.Omega.{arith}
-use lib.ListN.{length, drop}
-use Rattle.arrays.specs.Scan.{first_infinite}
 use Rattle.arrays.proofs.Scans.{scan-stops, scan-goes-on, scan-ends, denied, granted, clean_is}
 use Rattle.arrays.proofs.scan.first_infinite.Goals as goal
 

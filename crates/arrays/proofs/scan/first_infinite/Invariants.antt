@@ -1,11 +1,9 @@
 -- `arrays::scan::first_infinite` meets its contract. The invariant: what is left to scan, from i on, gives the whole scan's answer.
 -- The measure: the length less i. Assumes nothing.
-use mathlib.Core.Path.{◌≡◌, refl, sym, ◌∙◌}
+use mathlib.Core.Path.{◌≡◌}
 use Prim.Native.Nat.{◌-◌, ◌≤◌}
-use native.Mathlib.Omega.{arith}
 use lib.ListN.{length, drop}
 use Rattle.arrays.specs.Scan.{first_infinite}
-use Rattle.arrays.proofs.Scans.{scan-stops, scan-goes-on, scan-ends, denied, granted, clean_is}
 use Rattle.arrays.proofs.scan.first_infinite.Given as goal
 
 abbrev pub invariant-loop-i : goal.invariant-loop-i

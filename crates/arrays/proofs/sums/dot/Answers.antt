@@ -1,9 +1,7 @@
-use Prim.Native.Nat.{◌≤◌, ◌-◌}
 use mathlib.Core.Path.{◌≡◌, sym}
 use native.Mathlib.Omega.{arith}
 use lib.Ieee.{neg, of_bits}
-use Rattle.arrays.specs.Part.{part}
-use Rattle.arrays.specs.Sums.{◌!◌, products, minus0, dot_of}
+use Rattle.arrays.specs.Sums.{minus0, dot_of}
 use Rattle.arrays.proofs.Folds.{fold-none}
 use Rattle.arrays.proofs.Turns.{products-more}
 use Rattle.arrays.proofs.sums.dot.Goals as goal

@@ -1,12 +1,8 @@
 -- `arrays::sums::dot` meets its contract. The invariant: t is the sum of the first i products, from -0. The measure: n - i. Assumes nothing.
 use Prim.Native.Nat.{◌≤◌, ◌-◌}
-use mathlib.Core.Path.{◌≡◌, sym}
-use native.Mathlib.Omega.{arith}
-use lib.Ieee.{neg, of_bits}
+use mathlib.Core.Path.{◌≡◌}
 use Rattle.arrays.specs.Part.{part}
-use Rattle.arrays.specs.Sums.{◌!◌, products, minus0, dot_of}
-use Rattle.arrays.proofs.Folds.{fold-none}
-use Rattle.arrays.proofs.Turns.{products-more}
+use Rattle.arrays.specs.Sums.{◌!◌, products, minus0}
 use Rattle.arrays.proofs.sums.dot.Given as goal
 
 abbrev pub invariant-loop-i : goal.invariant-loop-i

@@ -1,5 +1,4 @@
 -- `arrays::sums::mean` meets its contract. Assumes nothing.
-use native.Mathlib.Omega.{arith}
 use Rattle.arrays.specs.Sums.{mean_of}
 use Rattle.arrays.proofs.sums.mean.Goals as goal
 

@@ -1,12 +1,9 @@
-use Prim.Native.Nat.{◌≤◌, ◌-◌}
 use mathlib.Core.Path.{◌≡◌, sym}
 use native.Mathlib.Omega.{arith}
 use lib.Ieee.{nan}
-use Rattle.arrays.specs.Part.{part}
 use Rattle.arrays.proofs.Part.{get_or-part}
-use Rattle.arrays.specs.Sums.{◌!◌, sum_to, plus0, norm1_of}
+use Rattle.arrays.specs.Sums.{norm1_of}
 use Rattle.arrays.proofs.Folds.{fold-none, fold-turn}
-use Rattle.numbers.specs.Ops.{magnitude_of}
 use Rattle.arrays.proofs.sums.norm_1.Goals as goal
 
 pub loop-i-init : goal.loop-i-init

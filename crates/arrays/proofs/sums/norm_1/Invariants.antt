@@ -1,12 +1,8 @@
 -- `arrays::sums::norm_1` meets its contract. The invariant: t is the sum of the first i magnitudes, from +0. The measure: n - i. Assumes nothing.
 use Prim.Native.Nat.{◌≤◌, ◌-◌}
-use mathlib.Core.Path.{◌≡◌, sym}
-use native.Mathlib.Omega.{arith}
-use lib.Ieee.{nan}
+use mathlib.Core.Path.{◌≡◌}
 use Rattle.arrays.specs.Part.{part}
-use Rattle.arrays.proofs.Part.{get_or-part}
-use Rattle.arrays.specs.Sums.{◌!◌, sum_to, plus0, norm1_of}
-use Rattle.arrays.proofs.Folds.{fold-none, fold-turn}
+use Rattle.arrays.specs.Sums.{◌!◌, sum_to, plus0}
 use Rattle.numbers.specs.Ops.{magnitude_of}
 use Rattle.arrays.proofs.sums.norm_1.Given as goal
 

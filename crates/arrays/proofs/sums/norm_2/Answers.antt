@@ -1,5 +1,4 @@
 -- `arrays::sums::norm_2` meets its contract. Assumes nothing.
-use native.Mathlib.Omega.{arith}
 use Rattle.arrays.specs.Sums.{product_of, norm2_of}
 use Rattle.arrays.proofs.sums.norm_2.Goals as goal
 

@@ -1,13 +1,9 @@
-use Prim.Native.Nat.{◌≤◌, ◌-◌}
 use mathlib.Core.Path.{◌≡◌, sym, ◌∙◌}
-use mathlib.Core.Bool.{true}
 use native.Mathlib.Omega.{arith}
-use lib.Ieee.{nan, inf, div, neg, of_bits}
-use Rattle.arrays.specs.Part.{part}
+use lib.Ieee.{nan, div, neg, of_bits}
 use Rattle.arrays.proofs.Part.{get_or-part}
-use Rattle.arrays.specs.Sums.{◌!◌, fold_to, norm_inf_of}
+use Rattle.arrays.specs.Sums.{norm_inf_of}
 use Rattle.arrays.proofs.Folds.{fold-none, fold-turn}
-use Rattle.numbers.specs.Ops.{magnitude_of}
 use Rattle.numbers.specs.Order.{maximum_of}
 use Rattle.arrays.proofs.sums.norm_inf.Goals as goal
 

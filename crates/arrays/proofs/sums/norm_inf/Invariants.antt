@@ -1,13 +1,10 @@
 -- `arrays::sums::norm_inf` meets its contract. The invariant: t is the largest of the first i magnitudes, from -infinity. The measure: n - i. Assumes nothing.
 use Prim.Native.Nat.{◌≤◌, ◌-◌}
-use mathlib.Core.Path.{◌≡◌, sym, ◌∙◌}
+use mathlib.Core.Path.{◌≡◌}
 use mathlib.Core.Bool.{true}
-use native.Mathlib.Omega.{arith}
-use lib.Ieee.{nan, inf, div, neg, of_bits}
+use lib.Ieee.{inf}
 use Rattle.arrays.specs.Part.{part}
-use Rattle.arrays.proofs.Part.{get_or-part}
-use Rattle.arrays.specs.Sums.{◌!◌, fold_to, norm_inf_of}
-use Rattle.arrays.proofs.Folds.{fold-none, fold-turn}
+use Rattle.arrays.specs.Sums.{◌!◌, fold_to}
 use Rattle.numbers.specs.Ops.{magnitude_of}
 use Rattle.numbers.specs.Order.{maximum_of}
 use Rattle.arrays.proofs.sums.norm_inf.Given as goal

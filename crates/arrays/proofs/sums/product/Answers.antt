@@ -1,8 +1,6 @@
-use Prim.Native.Nat.{◌≤◌, ◌-◌}
 use mathlib.Core.Path.{◌≡◌, sym}
 use native.Mathlib.Omega.{arith}
-use Rattle.arrays.specs.Part.{part}
-use Rattle.arrays.specs.Sums.{◌!◌, products, plus0, product_of}
+use Rattle.arrays.specs.Sums.{plus0, product_of}
 use Rattle.arrays.proofs.Folds.{fold-none}
 use Rattle.arrays.proofs.Turns.{products-more}
 use Rattle.arrays.proofs.sums.product.Goals as goal

@@ -1,11 +1,8 @@
 -- `arrays::sums::product` meets its contract. The invariant: t is the sum of the first i products, from +0. The measure: n - i. Assumes nothing.
 use Prim.Native.Nat.{◌≤◌, ◌-◌}
-use mathlib.Core.Path.{◌≡◌, sym}
-use native.Mathlib.Omega.{arith}
+use mathlib.Core.Path.{◌≡◌}
 use Rattle.arrays.specs.Part.{part}
-use Rattle.arrays.specs.Sums.{◌!◌, products, plus0, product_of}
-use Rattle.arrays.proofs.Folds.{fold-none}
-use Rattle.arrays.proofs.Turns.{products-more}
+use Rattle.arrays.specs.Sums.{◌!◌, products, plus0}
 use Rattle.arrays.proofs.sums.product.Given as goal
 
 abbrev pub invariant-loop-i : goal.invariant-loop-i

@@ -1,10 +1,8 @@
-use Prim.Native.Nat.{◌≤◌, ◌-◌}
 use mathlib.Core.Path.{◌≡◌, sym}
 use native.Mathlib.Omega.{arith}
 use lib.Ieee.{nan, neg, of_bits}
-use Rattle.arrays.specs.Part.{part}
 use Rattle.arrays.proofs.Part.{get_or-part}
-use Rattle.arrays.specs.Sums.{◌!◌, sum_to, minus0, sum_of}
+use Rattle.arrays.specs.Sums.{sum_of}
 use Rattle.arrays.proofs.Folds.{fold-none, fold-turn}
 use Rattle.arrays.proofs.sums.sum.Goals as goal
 

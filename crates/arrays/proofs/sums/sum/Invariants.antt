@@ -1,12 +1,8 @@
 -- `arrays::sums::sum` meets its contract. The invariant: t is the sum of the first i elements, from -0. The measure: n - i. Assumes nothing.
 use Prim.Native.Nat.{◌≤◌, ◌-◌}
-use mathlib.Core.Path.{◌≡◌, sym}
-use native.Mathlib.Omega.{arith}
-use lib.Ieee.{nan, neg, of_bits}
+use mathlib.Core.Path.{◌≡◌}
 use Rattle.arrays.specs.Part.{part}
-use Rattle.arrays.proofs.Part.{get_or-part}
-use Rattle.arrays.specs.Sums.{◌!◌, sum_to, minus0, sum_of}
-use Rattle.arrays.proofs.Folds.{fold-none, fold-turn}
+use Rattle.arrays.specs.Sums.{◌!◌, sum_to, minus0}
 use Rattle.arrays.proofs.sums.sum.Given as goal
 
 abbrev pub invariant-loop-i : goal.invariant-loop-i

@@ -1,13 +1,9 @@
-use Prim.Native.Nat.{ℕ, ◌≤◌, ◌-◌}
 use mathlib.Core.Path.{◌≡◌, sym}
-use mathlib.Core.List.{List}
 use native.Mathlib.Omega.{arith}
-use lib.Ieee.{Float, neg, of_bits}
-use Rattle.arrays.specs.Part.{part}
-use Rattle.arrays.specs.Sums.{◌!◌, products, minus0, dot_of}
+use lib.Ieee.{neg, of_bits}
+use Rattle.arrays.specs.Sums.{minus0, dot_of}
 use Rattle.arrays.proofs.Folds.{fold-none}
 use Rattle.arrays.proofs.Turns.{products-more}
-use Rattle.arrays.proofs.sums.three_dots.Invariants.{so_far}
 use Rattle.arrays.proofs.sums.three_dots.Goals as goal
 
 pub loop-i-init : goal.loop-i-init

@@ -1,13 +1,10 @@
 -- `arrays::sums::three_dots` meets its contract. The invariant: each sum has its first i products, from -0. The measure: n - i. Assumes nothing.
 use Prim.Native.Nat.{ℕ, ◌≤◌, ◌-◌}
-use mathlib.Core.Path.{◌≡◌, sym}
+use mathlib.Core.Path.{◌≡◌}
 use mathlib.Core.List.{List}
-use native.Mathlib.Omega.{arith}
-use lib.Ieee.{Float, neg, of_bits}
+use lib.Ieee.{Float}
 use Rattle.arrays.specs.Part.{part}
-use Rattle.arrays.specs.Sums.{◌!◌, products, minus0, dot_of}
-use Rattle.arrays.proofs.Folds.{fold-none}
-use Rattle.arrays.proofs.Turns.{products-more}
+use Rattle.arrays.specs.Sums.{◌!◌, products, minus0}
 use Rattle.arrays.proofs.sums.three_dots.Given as goal
 
 abbrev pub so_far : List Float → ℕ → ℕ → ℕ → ℕ → Float

@@ -1,13 +1,10 @@
 -- `arrays::vectors::add_scaled` meets its contract. The invariant: the first i elements of a + x * b are written, and all else is as it was.
 -- The measure: n - i. Assumes nothing.
 use Prim.Native.Nat.{◌-◌}
-use native.Mathlib.Omega.{arith}
-use lib.Ieee.{Float}
 use Rattle.numbers.specs.Ops.{◌⊕◌, ◌⊗◌}
 use Rattle.arrays.specs.Part.{part}
 use Rattle.arrays.specs.Sums.{◌!◌}
-use Rattle.arrays.specs.Vectors.{zip_of}
-use Rattle.arrays.proofs.Turns.{Made, made_none, zip_more, made_all}
+use Rattle.arrays.proofs.Turns.{Made}
 use Rattle.arrays.proofs.vectors.add_scaled.Given as goal
 
 abbrev pub invariant-loop-i : goal.invariant-loop-i

@@ -1,13 +1,10 @@
-use Prim.Native.Nat.{◌-◌, ◌<◌}
+use Prim.Native.Nat.{◌<◌}
 use mathlib.Core.Path.{refl}
 use native.Mathlib.Omega.{arith}
 use lib.Ieee.{nan}
-use Rattle.numbers.specs.Ops.{◌⊕◌, ◌⊗◌}
-use Rattle.arrays.specs.Part.{part}
 use Rattle.arrays.proofs.Part.{get_or-part}
-use Rattle.arrays.specs.Sums.{◌!◌}
 use Rattle.arrays.specs.Vectors.{zip_of}
-use Rattle.arrays.proofs.Turns.{Made, made_none, made_more, kept, made_all}
+use Rattle.arrays.proofs.Turns.{made_none, made_more, kept, made_all}
 use Rattle.arrays.proofs.vectors.add_scaled_from.Goals as goal
 
 pub loop-i-init : goal.loop-i-init

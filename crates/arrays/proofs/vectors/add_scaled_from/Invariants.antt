@@ -1,15 +1,10 @@
 -- `arrays::vectors::add_scaled_from` meets its contract. The invariant: the first i elements plus x times t's are written, and all else is as it was.
 -- The measure: n - i. Assumes nothing.
-use Prim.Native.Nat.{◌-◌, ◌<◌}
-use mathlib.Core.Path.{refl}
-use native.Mathlib.Omega.{arith}
-use lib.Ieee.{nan}
+use Prim.Native.Nat.{◌-◌}
 use Rattle.numbers.specs.Ops.{◌⊕◌, ◌⊗◌}
 use Rattle.arrays.specs.Part.{part}
-use Rattle.arrays.proofs.Part.{get_or-part}
 use Rattle.arrays.specs.Sums.{◌!◌}
-use Rattle.arrays.specs.Vectors.{zip_of}
-use Rattle.arrays.proofs.Turns.{Made, made_none, made_more, kept, made_all}
+use Rattle.arrays.proofs.Turns.{Made}
 use Rattle.arrays.proofs.vectors.add_scaled_from.Given as goal
 
 abbrev pub invariant-loop-i : goal.invariant-loop-i

@@ -1,9 +1,6 @@
-use Prim.Native.Nat.{◌-◌}
 use native.Mathlib.Omega.{arith}
 use lib.Ieee.{Float}
-use Rattle.arrays.specs.Part.{part}
-use Rattle.arrays.specs.Sums.{◌!◌}
-use Rattle.arrays.proofs.Turns.{Made, made_none, map_more, made-copy}
+use Rattle.arrays.proofs.Turns.{made_none, map_more, made-copy}
 use Rattle.arrays.proofs.vectors.copy.Goals as goal
 
 pub loop-i-init : goal.loop-i-init

@@ -1,11 +1,9 @@
 -- `arrays::vectors::copy` meets its contract. The invariant: the first i elements of the part at a, as they were, are copied, and all else is as it was.
 -- The measure: n - i. Assumes nothing.
 use Prim.Native.Nat.{◌-◌}
-use native.Mathlib.Omega.{arith}
-use lib.Ieee.{Float}
 use Rattle.arrays.specs.Part.{part}
 use Rattle.arrays.specs.Sums.{◌!◌}
-use Rattle.arrays.proofs.Turns.{Made, made_none, map_more, made-copy}
+use Rattle.arrays.proofs.Turns.{Made}
 use Rattle.arrays.proofs.vectors.copy.Given as goal
 
 abbrev pub invariant-loop-i : goal.invariant-loop-i

@@ -1,11 +1,8 @@
-use Prim.Native.Nat.{◌-◌}
 use mathlib.Core.Path.{sym}
 use native.Mathlib.Omega.{arith}
 use lib.Ieee.{nan}
-use Rattle.arrays.specs.Part.{part}
 use Rattle.arrays.proofs.Part.{get_or-part}
-use Rattle.arrays.specs.Sums.{◌!◌}
-use Rattle.arrays.proofs.Turns.{Made, made_none, made_more, made-copy}
+use Rattle.arrays.proofs.Turns.{made_none, made_more, made-copy}
 use Rattle.arrays.proofs.vectors.copy_from.Goals as goal
 
 pub loop-i-init : goal.loop-i-init

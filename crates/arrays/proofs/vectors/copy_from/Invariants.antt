@@ -1,13 +1,9 @@
 -- `arrays::vectors::copy_from` meets its contract. The invariant: the first i elements of t's part are copied, and all else is as it was.
 -- The measure: n - i. Assumes nothing.
 use Prim.Native.Nat.{◌-◌}
-use mathlib.Core.Path.{sym}
-use native.Mathlib.Omega.{arith}
-use lib.Ieee.{nan}
 use Rattle.arrays.specs.Part.{part}
-use Rattle.arrays.proofs.Part.{get_or-part}
 use Rattle.arrays.specs.Sums.{◌!◌}
-use Rattle.arrays.proofs.Turns.{Made, made_none, made_more, made-copy}
+use Rattle.arrays.proofs.Turns.{Made}
 use Rattle.arrays.proofs.vectors.copy_from.Given as goal
 
 abbrev pub invariant-loop-i : goal.invariant-loop-i

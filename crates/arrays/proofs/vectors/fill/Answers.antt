@@ -1,8 +1,7 @@
-use Prim.Native.Nat.{◌-◌}
 use mathlib.Core.Path.{refl}
 use native.Mathlib.Omega.{arith}
 use Rattle.arrays.specs.Vectors.{fill_of}
-use Rattle.arrays.proofs.Turns.{Made, made_none, made_more, made_all}
+use Rattle.arrays.proofs.Turns.{made_none, made_more, made_all}
 use Rattle.arrays.proofs.vectors.fill.Goals as goal
 
 pub loop-i-init : goal.loop-i-init

@@ -1,10 +1,7 @@
 -- `arrays::vectors::fill` meets its contract. The invariant: the first i elements from `out` are x, and all else is as it was.
 -- The measure: n - i. Assumes nothing.
 use Prim.Native.Nat.{◌-◌}
-use mathlib.Core.Path.{refl}
-use native.Mathlib.Omega.{arith}
-use Rattle.arrays.specs.Vectors.{fill_of}
-use Rattle.arrays.proofs.Turns.{Made, made_none, made_more, made_all}
+use Rattle.arrays.proofs.Turns.{Made}
 use Rattle.arrays.proofs.vectors.fill.Given as goal
 
 abbrev pub invariant-loop-i : goal.invariant-loop-i

@@ -1,11 +1,8 @@
 -- `arrays::vectors::sweep` meets its contract. The invariant: the slice is as it was, since each element is written as it was read.
 -- The measure: n - i. Assumes nothing.
 use Prim.Native.Nat.{◌≤◌, ◌-◌}
-use mathlib.Core.Path.{◌≡◌, refl, ◌∙◌}
-use native.Mathlib.Omega.{arith}
-use lib.ListN.{length, length-set}
-use lib.Seq.{set-get_or}
-use lib.Ieee.{nan}
+use mathlib.Core.Path.{◌≡◌}
+use lib.ListN.{length}
 use Rattle.arrays.proofs.vectors.sweep.Given as goal
 
 abbrev pub invariant-loop-i : goal.invariant-loop-i

@@ -1,13 +1,10 @@
 -- `arrays::vectors::times` meets its contract. The invariant: the first i products with x are written, and all else is as it was.
 -- The measure: n - i. Assumes nothing.
 use Prim.Native.Nat.{◌-◌}
-use native.Mathlib.Omega.{arith}
-use lib.Ieee.{Float}
 use Rattle.numbers.specs.Ops.{◌⊗◌}
 use Rattle.arrays.specs.Part.{part}
 use Rattle.arrays.specs.Sums.{◌!◌}
-use Rattle.arrays.specs.Vectors.{map_of}
-use Rattle.arrays.proofs.Turns.{Made, made_none, map_more, made_all}
+use Rattle.arrays.proofs.Turns.{Made}
 use Rattle.arrays.proofs.vectors.times.Given as goal
 
 abbrev pub invariant-loop-i : goal.invariant-loop-i

@@ -1,5 +1,4 @@
 -- `bg_solver::shared::error` meets its contract: the norm whose terms are magnitudes is the one that is computed. Assumes nothing.
-use native.Mathlib.Omega.{arith}
 use Rattle.arrays.proofs.Norms.{norm-two}
 use Rattle.bg_solver.proofs.shared.error.Goals as goal
 

@@ -1,9 +1,6 @@
-use Prim.Native.Nat.{◌-◌}
 use mathlib.Core.Bool.{true}
 use native.Mathlib.Omega.{arith}
-use Rattle.arrays.specs.Part.{part}
-use Rattle.arrays.proofs.Turns.{Made, made_none, made_more, made_all, kept}
-use Rattle.design.specs.Rows.{row_of}
+use Rattle.arrays.proofs.Turns.{made_none, made_more, made_all, kept}
 use Rattle.design.proofs.eager.normal_row.Goals as goal
 
 pub loop-j-init : goal.loop-j-init

@@ -2,9 +2,8 @@
 -- The measure: p - j. Assumes nothing.
 use Prim.Native.Nat.{◌-◌}
 use mathlib.Core.Bool.{true}
-use native.Mathlib.Omega.{arith}
 use Rattle.arrays.specs.Part.{part}
-use Rattle.arrays.proofs.Turns.{Made, made_none, made_more, made_all, kept}
+use Rattle.arrays.proofs.Turns.{Made}
 use Rattle.design.specs.Rows.{row_of}
 use Rattle.design.proofs.eager.normal_row.Given as goal
 

@@ -1,9 +1,6 @@
-use Prim.Native.Nat.{◌-◌}
-use mathlib.Core.Bool.{false}
 use mathlib.Core.Path.{refl}
 use native.Mathlib.Omega.{arith}
-use Rattle.arrays.proofs.Turns.{Made, made_none, made_more, made_all}
-use Rattle.design.specs.Rows.{row_of}
+use Rattle.arrays.proofs.Turns.{made_none, made_more, made_all}
 use Rattle.design.proofs.eager.raw_row.Goals as goal
 
 pub loop-j-init : goal.loop-j-init

@@ -2,9 +2,7 @@
 -- The measure: p - j. Assumes nothing.
 use Prim.Native.Nat.{◌-◌}
 use mathlib.Core.Bool.{false}
-use mathlib.Core.Path.{refl}
-use native.Mathlib.Omega.{arith}
-use Rattle.arrays.proofs.Turns.{Made, made_none, made_more, made_all}
+use Rattle.arrays.proofs.Turns.{Made}
 use Rattle.design.specs.Rows.{row_of}
 use Rattle.design.proofs.eager.raw_row.Given as goal
 

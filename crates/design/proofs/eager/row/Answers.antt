@@ -1,5 +1,4 @@
 -- `design::eager::row` meets its contract. Assumes nothing.
-use native.Mathlib.Omega.{arith}
 use Rattle.design.proofs.eager.row.Goals as goal
 
 pub normal_row-requires : goal.normal_row-requires

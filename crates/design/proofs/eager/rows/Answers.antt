@@ -1,9 +1,6 @@
-use Prim.Native.Nat.{◌-◌, ◌*◌}
 use native.Mathlib.Omega.{arith}
-use Rattle.arrays.specs.Part.{part}
 use Rattle.matrices.proofs.Lengths.{row_room}
-use Rattle.design.specs.Rows.{row_of}
-use Rattle.design.proofs.Grids.{Written, written_none, written-more, written_all, part-below}
+use Rattle.design.proofs.Grids.{written_none, written-more, written_all, part-below}
 use Rattle.design.proofs.eager.rows.Goals as goal
 
 pub loop-i-init : goal.loop-i-init

@@ -1,11 +1,9 @@
 -- `design::eager::rows` meets its contract. The invariant: the first i rows of the design are written, and all else is as it was.
 -- The measure: n - i. Assumes nothing.
 use Prim.Native.Nat.{◌-◌, ◌*◌}
-use native.Mathlib.Omega.{arith}
 use Rattle.arrays.specs.Part.{part}
-use Rattle.matrices.proofs.Lengths.{row_room}
 use Rattle.design.specs.Rows.{row_of}
-use Rattle.design.proofs.Grids.{Written, written_none, written-more, written_all, part-below}
+use Rattle.design.proofs.Grids.{Written}
 use Rattle.design.proofs.eager.rows.Given as goal
 
 abbrev pub invariant-loop-i : goal.invariant-loop-i

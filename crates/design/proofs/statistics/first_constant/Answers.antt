@@ -9,7 +9,7 @@ use Rattle.arrays.specs.Part.{put, tab}
 use Rattle.arrays.proofs.Part.{length-put, get_or-put-tab}
 use Rattle.arrays.specs.Sums.{◌!◌}
 use Rattle.arrays.specs.declared.scan.Found.TheVariants.{Clean, At}
-use Rattle.design.specs.Statistics.{is_constant, constant_from, constant_of}
+use Rattle.design.specs.Statistics.{is_constant, constant_from}
 use Rattle.design.proofs.statistics.first_constant.Goals as goal
 
 -- the deviation of column j stands behind 64 words

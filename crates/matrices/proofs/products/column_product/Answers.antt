@@ -1,11 +1,8 @@
-use Prim.Native.Nat.{◌+◌, ◌-◌, ◌*◌, ◌≤◌}
 use mathlib.Core.Path.{◌≡◌, sym}
 use native.Mathlib.Omega.{arith}
 use lib.Ieee.{nan}
-use Rattle.matrices.specs.Products.{column_product}
 use Rattle.matrices.proofs.Lengths.{row_room, next_row}
 use Rattle.arrays.proofs.Folds.{fold-none, fold-turn}
-use Rattle.arrays.specs.Part.{part}
 use Rattle.arrays.proofs.Part.{get_or-part}
 use Rattle.matrices.proofs.products.column_product.Goals as goal
 

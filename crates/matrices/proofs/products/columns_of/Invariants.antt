@@ -1,17 +1,9 @@
 -- `matrices::products::columns_of` meets its contract. The invariant of both loops: the products of the first j columns are written, and all else is as the
 -- loop found it. The measure of both: cols - j. Assumes nothing.
-use Prim.Native.Nat.{ℕ, ◌+◌, ◌-◌, ◌≤◌, ◌<◌}
-use mathlib.Core.Path.{◌≡◌, ap, ◌∙◌}
-use mathlib.Core.List.{List}
-use native.Mathlib.Omega.{arith}
-use lib.Ieee.{Float, nan}
-use Rattle.arrays.specs.Part.{part, tab}
-use Rattle.arrays.proofs.Part.{get_or-tab}
-use Rattle.arrays.specs.Sums.{◌!◌}
-use Rattle.several.specs.Several.{spread_of}
-use Rattle.arrays.proofs.Turns.{Made, made_none, made_more, made-self, made_again, made_all, part-kept}
-use Rattle.several.proofs.Runs.{made-spread}
-use Rattle.matrices.specs.Products.{column_product, columns_of}
+use Prim.Native.Nat.{◌-◌}
+use Rattle.arrays.specs.Part.{part}
+use Rattle.arrays.proofs.Turns.{Made}
+use Rattle.matrices.specs.Products.{column_product}
 use Rattle.matrices.proofs.products.columns_of.Given as goal
 
 abbrev pub invariant-loop-j : goal.invariant-loop-j

@@ -1,15 +1,11 @@
-use Prim.Native.Nat.{ℕ, ◌+◌, ◌-◌, ◌*◌, ◌≤◌}
+use Prim.Native.Nat.{◌+◌, ◌*◌}
 use mathlib.Core.Path.{◌≡◌, refl}
-use mathlib.Core.List.{List}
 use native.Mathlib.Omega.{arith}
-use lib.Ieee.{Float, nan}
-use Rattle.numbers.specs.Ops.{◌⊗◌}
-use Rattle.arrays.specs.Part.{part, tab}
+use lib.Ieee.{nan}
+use Rattle.arrays.specs.Part.{tab}
 use Rattle.arrays.proofs.Part.{get_or-part}
-use Rattle.arrays.specs.Sums.{◌!◌}
-use Rattle.several.proofs.Several.{Several, several-none, several-more, several-turn, several-all}
+use Rattle.several.proofs.Several.{several-none, several-more, several-turn, several-all}
 use Rattle.matrices.proofs.Lengths.{row_room, next_row}
-use Rattle.matrices.proofs.products.eight_columns.Invariants.{terms}
 use Rattle.matrices.proofs.products.eight_columns.Goals as goal
 
 pub loop-i-init : goal.loop-i-init

@@ -1,16 +1,13 @@
 -- `matrices::products::eight_columns` meets its contract. The outer invariant: each of the eight sums has its first i terms, and the next of the first one
 -- stands at `at`; the inner: the first k have one more. The measures: rows - i and 8 - k. Assumes nothing.
 use Prim.Native.Nat.{ℕ, ◌+◌, ◌-◌, ◌*◌, ◌≤◌}
-use mathlib.Core.Path.{◌≡◌, refl}
+use mathlib.Core.Path.{◌≡◌}
 use mathlib.Core.List.{List}
-use native.Mathlib.Omega.{arith}
-use lib.Ieee.{Float, nan}
+use lib.Ieee.{Float}
 use Rattle.numbers.specs.Ops.{◌⊗◌}
-use Rattle.arrays.specs.Part.{part, tab}
-use Rattle.arrays.proofs.Part.{get_or-part}
+use Rattle.arrays.specs.Part.{part}
 use Rattle.arrays.specs.Sums.{◌!◌}
-use Rattle.several.proofs.Several.{Several, several-none, several-more, several-turn, several-all}
-use Rattle.matrices.proofs.Lengths.{row_room, next_row}
+use Rattle.several.proofs.Several.{Several}
 use Rattle.matrices.proofs.products.eight_columns.Given as goal
 
 -- the terms of sum k

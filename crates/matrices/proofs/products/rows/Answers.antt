@@ -1,4 +1,4 @@
-use Prim.Native.Nat.{ℕ, ◌+◌, ◌-◌, ◌*◌, ◌/◌, ◌≤◌, ◌<◌}
+use Prim.Native.Nat.{ℕ, ◌+◌, ◌*◌, ◌/◌, ◌≤◌, ◌<◌}
 use mathlib.Core.Path.{◌≡◌, sym, ap, ◌∙◌}
 use mathlib.Core.List.{List}
 use native.Mathlib.Nat.{mul-le-mul_right}
@@ -9,7 +9,7 @@ use Rattle.arrays.specs.Part.{part, put}
 use Rattle.arrays.proofs.Part.{tab-ext, get_or-part}
 use Rattle.arrays.specs.Sums.{◌!◌}
 use Rattle.arrays.proofs.Folds.{fold-ext}
-use Rattle.matrices.specs.Products.{row_product, rows_of, Together}
+use Rattle.matrices.specs.Products.{rows_of, Together}
 use Rattle.matrices.proofs.Lengths.{row_room, next_row}
 use Rattle.matrices.proofs.Rows.{row_kept, row_more}
 use Rattle.arrays.proofs.Turns.{Made, made-first, made-self, made_again, made_all, part-kept}

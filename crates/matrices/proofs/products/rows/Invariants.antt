@@ -1,20 +1,12 @@
 -- `matrices::products::rows` meets its contract. The invariant: row i begins at `at`, and over what `runs` left the products of the first i rows are written.
 -- The measure: rows - i. Assumes nothing.
-use Prim.Native.Nat.{ℕ, ◌+◌, ◌-◌, ◌*◌, ◌/◌, ◌≤◌, ◌<◌}
-use mathlib.Core.Path.{◌≡◌, sym, ap, ◌∙◌}
+use Prim.Native.Nat.{ℕ, ◌+◌, ◌-◌, ◌*◌}
+use mathlib.Core.Path.{◌≡◌}
 use mathlib.Core.List.{List}
-use native.Mathlib.Nat.{mul-le-mul_right}
-use native.Mathlib.Omega.{arith}
-use lib.Ieee.{Float, nan}
-use Rattle.numbers.specs.Ops.{◌⊗◌}
-use Rattle.arrays.specs.Part.{part, put}
-use Rattle.arrays.proofs.Part.{tab-ext, get_or-part}
-use Rattle.arrays.specs.Sums.{◌!◌}
-use Rattle.arrays.proofs.Folds.{fold-ext}
-use Rattle.matrices.specs.Products.{row_product, rows_of, Together}
-use Rattle.matrices.proofs.Lengths.{row_room, next_row}
-use Rattle.matrices.proofs.Rows.{row_kept, row_more}
-use Rattle.arrays.proofs.Turns.{Made, made-first, made-self, made_again, made_all, part-kept}
+use lib.Ieee.{Float}
+use Rattle.arrays.specs.Part.{part}
+use Rattle.matrices.specs.Products.{row_product}
+use Rattle.arrays.proofs.Turns.{Made}
 use Rattle.matrices.proofs.products.rows.Given as goal
 
 -- the products of all rows, of what s holds

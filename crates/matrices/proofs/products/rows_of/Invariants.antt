@@ -1,17 +1,10 @@
 -- `matrices::products::rows_of` meets its contract. The invariant: row i begins at `at`, and over what `runs_of` left the products of the first i rows are
 -- written. The measure: rows - i. Assumes nothing.
-use Prim.Native.Nat.{ℕ, ◌-◌, ◌*◌, ◌/◌, ◌≤◌}
+use Prim.Native.Nat.{◌-◌, ◌*◌}
 use mathlib.Core.Path.{◌≡◌}
-use mathlib.Core.List.{List}
-use native.Mathlib.Nat.{mul-le-mul_right}
-use native.Mathlib.Omega.{arith}
-use lib.Ieee.{Float, nan}
-use Rattle.arrays.specs.Part.{part, put}
-use Rattle.arrays.proofs.Part.{get_or-part}
-use Rattle.matrices.specs.Products.{row_product, rows_of, Beside}
-use Rattle.matrices.proofs.Lengths.{row_room, next_row}
-use Rattle.matrices.proofs.Rows.{row_more}
-use Rattle.arrays.proofs.Turns.{Made, made-first, made-self, made_again, made_all, part-kept}
+use Rattle.arrays.specs.Part.{part}
+use Rattle.matrices.specs.Products.{row_product}
+use Rattle.arrays.proofs.Turns.{Made}
 use Rattle.matrices.proofs.products.rows_of.Given as goal
 
 abbrev pub invariant-loop-i : goal.invariant-loop-i

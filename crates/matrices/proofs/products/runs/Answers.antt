@@ -1,4 +1,4 @@
-use Prim.Native.Nat.{ℕ, ◌+◌, ◌-◌, ◌*◌, ◌<◌}
+use Prim.Native.Nat.{ℕ, ◌+◌, ◌*◌, ◌<◌}
 use mathlib.Core.Path.{◌≡◌, ap, sym, ◌∙◌}
 use mathlib.Core.List.{List}
 use native.Mathlib.Omega.{arith}
@@ -6,9 +6,9 @@ use lib.Ieee.{Float, nan}
 use Rattle.arrays.specs.Part.{part}
 use Rattle.arrays.proofs.Part.{get_or-part}
 use Rattle.arrays.specs.Sums.{◌!◌}
-use Rattle.several.proofs.Runs.{Runs, runs_none, runs-all, but-kept}
+use Rattle.several.proofs.Runs.{runs_none, runs-all, but-kept}
 use Rattle.several.proofs.Rows.{run-rows}
-use Rattle.matrices.specs.Products.{row_product, rows_of}
+use Rattle.matrices.specs.Products.{rows_of}
 use Rattle.matrices.proofs.Lengths.{row_room, next_row}
 use Rattle.matrices.proofs.Rows.{run_more}
 use Rattle.matrices.proofs.products.runs.Goals as goal

@@ -1,11 +1,8 @@
-use Prim.Native.Nat.{◌+◌, ◌-◌, ◌*◌}
-use mathlib.Core.Path.{◌≡◌}
 use native.Mathlib.Nat.{zero-add}
 use native.Mathlib.Omega.{arith}
-use Rattle.arrays.specs.Part.{part}
-use Rattle.several.proofs.Runs.{Runs, runs_none, runs-all, but-kept}
+use Rattle.several.proofs.Runs.{runs_none, runs-all, but-kept}
 use Rattle.several.proofs.Rows.{run-rows}
-use Rattle.matrices.specs.Products.{row_product, rows_of}
+use Rattle.matrices.specs.Products.{rows_of}
 use Rattle.matrices.proofs.Lengths.{row_room, next_row}
 use Rattle.matrices.proofs.Rows.{run_more}
 use Rattle.matrices.proofs.products.runs_of.Goals as goal

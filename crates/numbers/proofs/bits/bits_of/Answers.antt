@@ -1,6 +1,5 @@
 -- `numbers::bits::bits_of` meets its contract: a NaN has the pattern that `to_bits` writes for it. Assumes nothing.
 use mathlib.Core.Path.{◌≡◌, refl, sym, ap, ◌∙◌}
-use borrow.Author.Rules.{rules}
 use lib.Ieee.{nan, binary64, to_bits}
 use Rattle.numbers.proofs.Nans.{a-nan, not-nan}
 use Rattle.numbers.proofs.bits.bits_of.Goals as goal

@@ -1,6 +1,5 @@
 -- `numbers::bits::canonical` meets its contract: 0.0 / 0.0 is the NaN that x is. Assumes nothing.
 use mathlib.Core.Path.{sym}
-use borrow.Author.Rules.{rules}
 use lib.Ieee.{div, of_bits}
 use Rattle.numbers.proofs.Nans.{a-nan}
 use Rattle.numbers.proofs.bits.canonical.Goals as goal

@@ -1,6 +1,5 @@
 -- `numbers::bits::of_bits` meets its contract: the patterns that it does not read are those of a NaN. Assumes nothing.
 use mathlib.Core.Path.{sym}
-use borrow.Author.Rules.{rules}
 use native.Mathlib.Omega.{arith}
 use lib.Ieee.{div, of_bits}
 use Rattle.numbers.proofs.Nans.{bits-nan, bits-not-nan}

@@ -2,7 +2,6 @@
 use Prim.Native.Nat.{◌%◌, ◌^◌}
 use native.Mathlib.Omega.{arith}
 use lib.Count.{leading_le}
-use borrow.Author.Rules.{rules}
 use Rattle.numbers.proofs.Normals.{zeros-at-least, low-normal, high-normal}
 use Rattle.numbers.proofs.normal.normalised.Goals as goal
 

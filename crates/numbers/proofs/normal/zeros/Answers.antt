@@ -1,7 +1,6 @@
 -- `normal::zeros` is the count of leading zeros, which fits 64 bits. Assumes nothing.
 use lib.Count.{leading_le}
 use native.Mathlib.Omega.{arith}
-use borrow.Author.Rules.{rules}
 use Rattle.numbers.proofs.normal.zeros.Goals as goal
 
 pub overflow_cast-result : goal.overflow_cast-result

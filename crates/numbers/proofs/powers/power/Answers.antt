@@ -1,6 +1,5 @@
 -- `numbers::powers::power` meets its contract: each arm is that of `power_of`. Assumes nothing.
 use mathlib.Core.Path.{ap, sym, ◌∙◌}
-use borrow.Author.Rules.{rules}
 use Rattle.numbers.specs.declared.powers.Exponent.{Exponent}
 use Rattle.numbers.specs.Powers.{power_of}
 use Rattle.numbers.proofs.powers.power.Goals as goal

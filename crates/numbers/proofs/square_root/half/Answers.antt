@@ -1,6 +1,5 @@
 -- `square_root::half` meets its contract: the arithmetic is in Halves. Assumes nothing.
 use native.Mathlib.Omega.{arith}
-use borrow.Author.Rules.{rules}
 use Rattle.numbers.proofs.Halves.{half-even, half-odd}
 use Rattle.numbers.proofs.square_root.half.Goals as goal
 

@@ -1,5 +1,5 @@
 use mathlib.Core.Path.{◌≡◌, sym, subst}
-use Prim.Native.Nat.{◌+◌, ◌-◌}
+use Prim.Native.Nat.{◌+◌}
 use native.Mathlib.Omega.{arith}
 use Rattle.numbers.specs.declared.square_root.Digits.{Digits}
 use Rattle.numbers.proofs.Recurrence.{Worked, start, step, nearest-of}

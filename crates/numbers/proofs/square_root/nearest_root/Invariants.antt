@@ -1,10 +1,7 @@
 -- `square_root::nearest_root` meets its contract. The invariant: w holds as many bits of the root of m * 2 ^ 54 as rounds were made.
 -- The measure: 54 - bit. The arithmetic is in Recurrence. Assumes nothing.
-use mathlib.Core.Path.{◌≡◌, sym, subst}
-use Prim.Native.Nat.{◌+◌, ◌-◌}
-use native.Mathlib.Omega.{arith}
-use Rattle.numbers.specs.declared.square_root.Digits.{Digits}
-use Rattle.numbers.proofs.Recurrence.{Worked, start, step, nearest-of}
+use Prim.Native.Nat.{◌-◌}
+use Rattle.numbers.proofs.Recurrence.{Worked}
 use Rattle.numbers.proofs.square_root.nearest_root.Given as goal
 
 abbrev pub invariant-loop-bit : goal.invariant-loop-bit

@@ -1,6 +1,5 @@
 -- `square_root::next_bit` meets its contract, by the bit that it finds. Assumes nothing.
 use native.Mathlib.Omega.{arith}
-use borrow.Author.Rules.{rules}
 use Rattle.numbers.proofs.Recurrence.{is_one, is_zero}
 use Rattle.numbers.proofs.square_root.next_bit.Goals as goal
 

@@ -4,7 +4,6 @@ use mathlib.Core.Bool.{Bool, not}
 use lib.Dec.{T}
 use lib.Ieee.{binary64, fits}
 use lib.Ieee.Bits.{nan_bits_is}
-use borrow.Author.Rules.{rules}
 use Rattle.numbers.proofs.Values.{number-bits}
 use Rattle.numbers.proofs.Nans.{nan_is, not-nan}
 use Rattle.numbers.proofs.Patterns.{pattern}

@@ -1,5 +1,4 @@
 -- `square_root::root_bits` meets its contract: the arithmetic is in Halves. Assumes nothing.
-use borrow.Author.Rules.{rules}
 use Rattle.numbers.proofs.Halves.{root-of-normal}
 use Rattle.numbers.proofs.square_root.root_bits.Goals as goal
 

@@ -1,6 +1,5 @@
 -- `replay_fits::designs::multiplied` is safe: what `limits` has passed may be multiplied, and the products keep the scratch's length. Assumes nothing.
 use native.Mathlib.Omega.{arith}
-use borrow.Author.Rules.{rules}
 use lib.ListN.{length}
 use Prim.Native.Nat.{◌+◌, ◌≤◌}
 use Rattle.layout.specs.declared.Sizes.{Sizes}

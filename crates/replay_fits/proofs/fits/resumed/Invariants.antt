@@ -3,7 +3,6 @@
 use mathlib.Core.Path.{◌≡◌}
 use Prim.Native.Nat.{◌-◌}
 use lib.ListN.{length}
-use native.Mathlib.Omega.{arith}
 use Rattle.replay_fits.proofs.fits.resumed.Given as goal
 
 abbrev pub invariant-loop-i : goal.invariant-loop-i

@@ -1,6 +1,5 @@
 -- `replay_moves::outputs::marked` is safe and ends: the bytes that are left are the measure. Assumes nothing.
 use Prim.Native.Nat.{◌-◌}
-use native.Mathlib.Omega.{arith}
 use Rattle.replay_moves.proofs.outputs.marked.Given as goal
 
 abbrev pub invariant-loop-i : goal.invariant-loop-i

@@ -1,8 +1,7 @@
 -- `replay_moves::writings::claims` is safe and ends: the words that are left are the measure. Assumes nothing.
 use mathlib.Core.Path.{◌≡◌}
 use Prim.Native.Nat.{◌-◌}
-use native.Mathlib.Omega.{arith}
-use lib.ListN.{length, length-set}
+use lib.ListN.{length}
 use Rattle.replay_moves.proofs.writings.claims.Given as goal
 
 abbrev pub invariant-loop-i : goal.invariant-loop-i
