@@ -37,7 +37,7 @@ pub fn refused(r: Refusal) -> Whole
     }
 }
 
-// What the call that ended a fit says of it. The last arm is never reached; the language has none without a value.
+// What the call that ended a fit says of it. The last arm is never reached, since the fit has ended.
 pub fn settled(r: Resumed) -> Whole
     requires { HasEnded r }
     ensures { Settles r result }
