@@ -36,13 +36,6 @@ sweep-requires c =
     let e = len₄ in
     omega (arith, c.requires.begins.room.room, c.requires.need_value)
 
-pub shape_of-s : goal.shape_of-s
-shape_of-s c =
-    let len₂ : length c.statistics.new.s ≡ length c.args.s.now = c.statistics.auto.s ∙ c.blank.auto.s in
-    let len₃ : length c.targets.new.s ≡ length c.args.s.now = c.targets.auto.s ∙ len₂ in
-    let len₄ : length c.prepare.new.s ≡ length c.args.s.now = c.prepare.auto.s ∙ len₃ in
-    c.sweep.auto.s ∙ len₄
-
 pub returns : goal.returns
 unfolding start_store
 returns c =

@@ -11,12 +11,6 @@ returns-then-answer-ne7 c =
 pub write_answer-requires : goal.write_answer-requires
 write_answer-requires c = c.if-answer-ne7.false
 
-pub shape_of-out : goal.shape_of-out
-shape_of-out c = c.predict.auto.out
-
-pub shape_of-answer : goal.shape_of-answer
-shape_of-answer c = c.write_answer.auto.out
-
 pub returns : goal.returns
 returns c =
     let g = c.args in

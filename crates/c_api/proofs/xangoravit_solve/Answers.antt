@@ -11,15 +11,6 @@ returns-then-answer-ne7 c =
 pub write_answer-requires : goal.write_answer-requires
 write_answer-requires c = c.if-answer-ne7.false
 
-pub shape_of-x : goal.shape_of-x
-shape_of-x c = c.solve.auto.x
-
-pub shape_of-s : goal.shape_of-s
-shape_of-s c = c.solve.auto.s
-
-pub shape_of-answer : goal.shape_of-answer
-shape_of-answer c = c.write_answer.auto.out
-
 pub returns : goal.returns
 returns c =
     let g = c.args in

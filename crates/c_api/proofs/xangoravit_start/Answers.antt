@@ -5,9 +5,6 @@ use lib.ListN.{length}
 use Rattle.c_api.proofs.Calls.{Due, Lengths, lengths, start-not-due, start-due}
 use Rattle.c_api.proofs.xangoravit_start.Goals as goal
 
-pub shape_of-answer-then-not-due : goal.shape_of-answer-then-not-due
-shape_of-answer-then-not-due c = c.refuse.auto.answer
-
 pub returns-then-not-due : goal.returns-then-not-due
 returns-then-not-due c =
     let g = c.args in
@@ -34,15 +31,6 @@ write_answer-requires c =
     let sized : let g = c.args in Lengths (length g.settings.now) (length g.rec.now) (length g.answer.now) = let g = c.args in
     lengths (length g.settings.now) (length g.rec.now) (length g.answer.now) is-due in
     sized.answer
-
-pub shape_of-s : goal.shape_of-s
-shape_of-s c = c.start-o.auto.s
-
-pub shape_of-rec : goal.shape_of-rec
-shape_of-rec c = c.write_started.auto.out
-
-pub shape_of-answer : goal.shape_of-answer
-shape_of-answer c = c.write_answer.auto.out
 
 pub returns : goal.returns
 returns c =

@@ -2,8 +2,6 @@
 use mathlib.Core.Path.{◌≡◌, sym, subst, ◌∙◌}
 use mathlib.Core.Bool.{true, ◌&&◌}
 use Prim.Native.Nat.{ℕ, ◌*◌, ◌≤◌, ◌<◌}
-use native.Mathlib.Nat.{mul-le-mul}
-use native.Mathlib.Omega.{arith}
 use lib.Dec.{leb, eqb}
 use borrow.Author.Tests.{le-leb, lt-leb, eq-eqb, ne_eqb}
 use Rattle.settings.specs.Settings.{allowed_of}
@@ -22,13 +20,6 @@ unfolding limits_of
 returns-then-not-in_size c =
     let w = c.in_size in
     rw (← w.ensures, c.if-not-in_size.true)
-
-pub overflow_mul-n : goal.overflow_mul-n
-overflow_mul-n c =
-    let sized : in_size c.args.n c.args.p ≡ true = sym c.in_size.ensures ∙ c.if-not-in_size.false in
-    let bounds : InSize c.args.n c.args.p = size_of _ _ sized in
-    let z = bounds in
-    omega (arith, mul-le-mul z.rows z.columns)
 
 pub returns-then-xl-n : goal.returns-then-xl-n
 unfolding limits_of

@@ -16,9 +16,6 @@ returns-in_default c =
     c.at.ensures
     ∙ in-matrix g.x.now g.y.now g.n g.p g.normalise c.first_infinite-f.result _ c.first_infinite-f.ensures c.in_default.is
 
-pub overflow_mul-n : goal.overflow_mul-n
-overflow_mul-n c = omega (arith, mul-le-mul c.requires.rows c.requires.columns)
-
 pub at-requires-in_default-f : goal.at-requires-in_default-f
 at-requires-in_default-f c =
     let l = mul-le-mul c.requires.rows c.requires.columns in

@@ -3,21 +3,12 @@ use Prim.Native.Nat.{ℕ}
 use native.Mathlib.Omega.{arith}
 use Rattle.arrays.specs.Sums.{◌!◌}
 use Rattle.arrays.proofs.Turns.{made_none, made_more, made_all}
-use Rattle.matrices.proofs.Lengths.{row_room, next_row}
+use Rattle.matrices.proofs.Lengths.{next_row}
 use Rattle.lone_rounds.specs.Lone.{diagonal_of}
 use Rattle.lone_rounds.proofs.diagonal.Goals as goal
 
 pub loop-i-init : goal.loop-i-init
 loop-i-init c = (made_none _ _ _ _, omega arith)
-
-pub offset_bounds-a-at : goal.offset_bounds-a-at
-offset_bounds-a-at c = omega (arith, row_room c.loop-i.i c.args.n c.args.n c.loop-i-test.true)
-
-pub bounds-a-at : goal.bounds-a-at
-bounds-a-at c = omega (arith, row_room c.loop-i.i c.args.n c.args.n c.loop-i-test.true)
-
-pub overflow_add-at-in-loop-i : goal.overflow_add-at-in-loop-i
-overflow_add-at-in-loop-i c = omega (arith, row_room c.loop-i.i c.args.n c.args.n c.loop-i-test.true)
 
 pub loop-i-preserved : goal.loop-i-preserved
 loop-i-preserved c =

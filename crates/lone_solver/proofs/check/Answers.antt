@@ -1,6 +1,5 @@
 -- `lone_solver::check` meets its contract: each return is the first test that fails. Assumes nothing.
 use mathlib.Core.Path.{sym, ◌∙◌}
-use native.Mathlib.Nat.{mul-le-mul}
 use native.Mathlib.Omega.{arith}
 use Rattle.refusal.proofs.Scanning.{opposed}
 use Rattle.lone_solver.proofs.Checks.{InSize, Lengths, Settled, bad-size, bad-length, bad-setting, bad-scratch, good-sizes}
@@ -11,12 +10,6 @@ returns-then-n-lt1 c = sym (bad-size _ _ _ _ _ _ _ (λ z. omega (arith, z.least)
 
 pub returns-then-n-gt64 : goal.returns-then-n-gt64
 returns-then-n-gt64 c = sym (bad-size _ _ _ _ _ _ _ (λ z. omega (arith, z.most)))
-
-pub overflow_mul-n : goal.overflow_mul-n
-overflow_mul-n c =
-    let sized : InSize c.args.n = record { least = omega arith; most = omega arith } in
-    let z = sized in
-    omega (arith, mul-le-mul z.most z.most)
 
 pub returns-then-a-n : goal.returns-then-a-n
 returns-then-a-n c =

@@ -1,7 +1,6 @@
 -- `opening::open` meets its contract: one return where it has converged, one where the tolerance is not positive, one where the solver is ready.
 -- Assumes nothing.
 use mathlib.Core.Path.{◌≡◌, ◌∙◌}
-use native.Mathlib.Omega.{arith}
 use lib.ListN.{length}
 use Rattle.layout.proofs.Slots.{vars-of}
 use Rattle.design_products.proofs.Lengths.{held_on}
@@ -11,21 +10,11 @@ use Rattle.opening.proofs.open.Goals as goal
 pub gap-g-requires : goal.gap-g-requires
 gap-g-requires c = record { held = c.requires.held; known = c.requires.known }
 
-pub shape_of-s-then-g-tol : goal.shape_of-s-then-g-tol
-shape_of-s-then-g-tol c =
-    let len-gap : length c.gap-g.new.s ≡ length c.args.s.now = c.gap-g.auto.s in
-    len-gap
-
 pub returns-then-g-tol : goal.returns-then-g-tol
 returns-then-g-tol c =
     let a = c.args in
     let d = c.gap-g.ensures in
     open_done a.sh a.tm _ a.tol a.r a.a _ d.gap_is d.dual-is d.left c.if-g-tol.true
-
-pub next_t-t-requires : goal.next_t-t-requires
-next_t-t-requires c =
-    let h = c.requires.held.columns in
-    omega arith
 
 pub newton_terms-requires : goal.newton_terms-requires
 newton_terms-requires c =
@@ -39,12 +28,6 @@ pcgtol-pcg-requires c =
     let len-newton : length c.newton_terms.new.s ≡ length c.args.s.now = c.newton_terms.auto.s ∙ len-gap in
     (held_on c.requires.held len-newton).room
 
-pub shape_of-s-then-pcg : goal.shape_of-s-then-pcg
-shape_of-s-then-pcg c =
-    let len-gap : length c.gap-g.new.s ≡ length c.args.s.now = c.gap-g.auto.s in
-    let len-newton : length c.newton_terms.new.s ≡ length c.args.s.now = c.newton_terms.auto.s ∙ len-gap in
-    len-newton
-
 pub returns-then-pcg : goal.returns-then-pcg
 returns-then-pcg c =
     let a = c.args in
@@ -57,12 +40,6 @@ begin-bnrm-requires c =
     let len-gap : length c.gap-g.new.s ≡ length c.args.s.now = c.gap-g.auto.s in
     let len-newton : length c.newton_terms.new.s ≡ length c.args.s.now = c.newton_terms.auto.s ∙ len-gap in
     (held_on c.requires.held len-newton).room
-
-pub shape_of-s : goal.shape_of-s
-shape_of-s c =
-    let len-gap : length c.gap-g.new.s ≡ length c.args.s.now = c.gap-g.auto.s in
-    let len-newton : length c.newton_terms.new.s ≡ length c.args.s.now = c.newton_terms.auto.s ∙ len-gap in
-    c.begin-bnrm.auto.s ∙ len-newton
 
 pub returns : goal.returns
 returns c =

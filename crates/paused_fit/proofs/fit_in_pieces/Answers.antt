@@ -1,9 +1,7 @@
 -- `paused_fit::fit_in_pieces` meets its contract: the third budget alone is 5,100·M. Assumes nothing.
 use Prim.Native.Nat.{ℕ, ◌*◌}
 use native.Mathlib.Omega.{arith}
-use mathlib.Core.Path.{◌≡◌, ◌∙◌}
 use mathlib.Core.List.{[], ◌∷◌}
-use lib.ListN.{length}
 use Rattle.pause.specs.Progress.{total}
 use Rattle.promises.specs.Chain.{Enough}
 use Rattle.whole_fit.proofs.Returns.{start-refuses, many-weights, few, has_ended, settles}
@@ -29,24 +27,11 @@ settled-requires c =
     has_ended g.n g.p g.x.now g.y.now g.st g.s.now g.w.now c.start_whole.result c.start_whole.ensures
     c.in-Ready.is c.resumed.result (enough g.st.max_iter g.first g.second) c.resumed.ensures
 
-pub shape_of-s-in-Ready : goal.shape_of-s-in-Ready
-shape_of-s-in-Ready c =
-    let scratch : length c.start_whole.new.s ≡ length c.args.s.now = c.start_whole.auto.s in
-    c.resumed.auto.s ∙ scratch
-
-pub shape_of-w : goal.shape_of-w
-shape_of-w c = c.resumed.auto.w
-
 pub returns-in-Ready : goal.returns-in-Ready
 returns-in-Ready c =
     let g = c.args in
     settles g.n g.p g.x.now g.y.now g.st g.s.now g.w.now c.start_whole.result c.start_whole.ensures
     c.in-Ready.is c.resumed.result (enough g.st.max_iter g.first g.second) c.resumed.ensures c.settled.ensures
-
-pub shape_of-s-in-Refused : goal.shape_of-s-in-Refused
-shape_of-s-in-Refused c =
-    let scratch : length c.start_whole.new.s ≡ length c.args.s.now = c.start_whole.auto.s in
-    scratch
 
 pub returns-in-Refused : goal.returns-in-Refused
 returns-in-Refused c =

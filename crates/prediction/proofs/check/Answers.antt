@@ -1,7 +1,5 @@
 -- `prediction::check` meets its contract: each return is the first test that fails. Assumes nothing.
 use mathlib.Core.Path.{sym, ◌∙◌}
-use native.Mathlib.Nat.{mul-le-mul}
-use native.Mathlib.Omega.{arith}
 use Rattle.refusal.proofs.Scanning.{opposed}
 use Rattle.refusal.proofs.Sizes.{InSize, size-good, size_of}
 use Rattle.prediction.proofs.Checks.{Lengths, bad-size, bad-length, good-sizes}
@@ -11,12 +9,6 @@ pub returns-then-not-in_size : goal.returns-then-not-in_size
 returns-then-not-in_size c =
     let e = sym c.in_size.ensures ∙ c.if-not-in_size.true in
     sym (bad-size _ _ _ _ _ _ (λ z. opposed _ e (size-good _ _ z)))
-
-pub overflow_mul-n : goal.overflow_mul-n
-overflow_mul-n c =
-    let sized : InSize c.args.n c.args.p = size_of _ _ (sym c.in_size.ensures ∙ c.if-not-in_size.false) in
-    let z = sized in
-    omega (arith, mul-le-mul z.rows z.columns)
 
 pub returns-then-x-n : goal.returns-then-x-n
 returns-then-x-n c =

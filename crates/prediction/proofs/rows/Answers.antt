@@ -1,7 +1,7 @@
 use mathlib.Core.Path.{◌≡◌, ◌∙◌}
 use mathlib.Core.List.{List}
 use Prim.Native.Nat.{ℕ, ◌*◌, ◌/◌, ◌≤◌}
-use native.Mathlib.Nat.{suc-mul, mul-le-mul, mul-le-mul_right}
+use native.Mathlib.Nat.{mul-le-mul_right}
 use native.Mathlib.Omega.{arith}
 use lib.Ieee.{Float}
 use Rattle.arrays.specs.Part.{put}
@@ -27,16 +27,6 @@ pub loop-i-init : goal.loop-i-init
 loop-i-init c =
     let g = c.args in
     made-self (begun g.n g.p g.x.now g.w.now g.b g.out.now _ _ (omega arith) c.runs.ensures)
-
-pub overflow_mul-i : goal.overflow_mul-i
-overflow_mul-i c =
-    let h : c.loop-i.i ≤ 4096 = omega (arith, c.requires.n_bound) in
-    omega (arith, mul-le-mul h c.requires.p_bound)
-
-pub product-requires : goal.product-requires
-product-requires c =
-    let l = rw (suc-mul c.loop-i.i c.args.p) at (mul-le-mul_right c.args.p c.loop-i-test.true) in
-    record { n_in_bounds = omega (arith, c.requires.x_len); n_in_bounds_2 = omega (arith, c.requires.w_len) }
 
 pub loop-i-preserved : goal.loop-i-preserved
 loop-i-preserved c =

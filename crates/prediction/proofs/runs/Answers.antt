@@ -1,31 +1,12 @@
-use native.Mathlib.Nat.{zero-add, suc-mul, mul-le-mul_right}
+use native.Mathlib.Nat.{zero-add}
 use native.Mathlib.Omega.{arith}
 use Rattle.several.proofs.Runs.{runs_none, runs-spread, runs-all}
-use Rattle.several.proofs.Rows.{run-rows}
 use Rattle.prediction.specs.Predict.{predicted_of}
 use Rattle.prediction.proofs.EachRow.{of-eight}
 use Rattle.prediction.proofs.runs.Goals as goal
 
-pub overflow_mul-apart : goal.overflow_mul-apart
-overflow_mul-apart c =
-    let g = c.args in
-    omega (arith, run-rows g.e g.p)
-
 pub loop-i-init : goal.loop-i-init
 loop-i-init c = runs_none _ _ 8 _ _
-
-pub overflow_mul-i : goal.overflow_mul-i
-overflow_mul-i c =
-    let g = c.args in
-    omega (arith, run-rows g.e g.p, suc-mul c.loop-i.i g.p, mul-le-mul_right g.p c.loop-i-test.true)
-
-pub eight-t-requires : goal.eight-t-requires
-eight-t-requires c =
-    let g = c.args in
-    record { n_in_bounds = omega (arith, run-rows g.e g.p, suc-mul c.loop-i.i g.p, mul-le-mul_right g.p c.loop-i-test.true); n_in_bounds_2 = omega (arith, run-rows g.e g.p, suc-mul c.loop-i.i g.p, mul-le-mul_right g.p c.loop-i-test.true) }
-
-pub put_eight-requires : goal.put_eight-requires
-put_eight-requires c = omega (arith, c.loop-i.invariant.but.long)
 
 pub loop-i-preserved : goal.loop-i-preserved
 loop-i-preserved c =

@@ -15,9 +15,6 @@ returns-in_default c =
     c.at.ensures
     ∙ in-matrix g.x.now g.w.now g.b c.first_infinite-f.result _ c.first_infinite-f.ensures c.in_default.is
 
-pub overflow_mul-n : goal.overflow_mul-n
-overflow_mul-n c = omega (arith, mul-le-mul c.requires.n_bound c.requires.p_bound)
-
 pub at-requires-in_default-f : goal.at-requires-in_default-f
 at-requires-in_default-f c =
     let l = mul-le-mul c.requires.n_bound c.requires.p_bound in
@@ -29,12 +26,6 @@ returns-in_default-f c =
     c.at-in_default-f.ensures
     ∙ in-weights g.x.now g.w.now g.b c.first_infinite-f.result c.first_infinite-f-2.result
     c.first_infinite-f.ensures c.first_infinite-f-2.ensures c.in-Clean.is _ _ c.in_default-f.is c.requires.x_len
-
-pub overflow_mul-result : goal.overflow_mul-result
-overflow_mul-result c = omega (arith, mul-le-mul c.requires.n_bound c.requires.p_bound)
-
-pub overflow_add-result : goal.overflow_add-result
-overflow_add-result c = omega (arith, mul-le-mul c.requires.n_bound c.requires.p_bound)
 
 pub returns-then-not-finite : goal.returns-then-not-finite
 returns-then-not-finite c =

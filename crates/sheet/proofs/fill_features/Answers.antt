@@ -1,6 +1,5 @@
 use native.Mathlib.Omega.{arith}
 use Rattle.arrays.proofs.Turns.{made_none, made_more, made_all}
-use Rattle.big_endian.specs.Bytes.{float_at}
 use Rattle.sheet.proofs.fill_features.Goals as goal
 
 pub loop-j-init : goal.loop-j-init

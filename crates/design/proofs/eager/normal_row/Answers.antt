@@ -1,4 +1,3 @@
-use mathlib.Core.Bool.{true}
 use native.Mathlib.Omega.{arith}
 use Rattle.arrays.proofs.Turns.{made_none, made_more, made_all, kept}
 use Rattle.design.proofs.eager.normal_row.Goals as goal
