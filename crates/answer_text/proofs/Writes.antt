@@ -1,12 +1,10 @@
 -- Texts written one after another: a text, and one more behind it. Assumes nothing.
-use mathlib.Core.Path.{◌≡◌, refl, sym, ap, ◌∙◌}
+use mathlib.Core.Path.{◌≡◌, sym, ap, ◌∙◌}
 use mathlib.Core.List.{List, [], ◌∷◌, ◌++◌}
-use Prim.Native.Nat.{ℕ, ◌+◌, ◌≤◌, ◌<◌}
+use Prim.Native.Nat.{ℕ, ◌+◌, ◌≤◌}
 use native.Mathlib.Nat.{add-zero}
-use native.Mathlib.Numerals.{add-one}
 use native.Mathlib.Omega.{arith}
-use lib.ListN.{length, get_or, set, take, length-append, length-set}
-use lib.Seq.{take-suc, take-length}
+use lib.ListN.{length, set, length-append}
 use Rattle.arrays.proofs.Part.{put-none, put-append, put-snoc, length-put}
 use Rattle.answer_text.specs.Text.{Wrote}
 
@@ -31,27 +29,3 @@ module _ {m : List ℕ} {at : ℕ} {s : List ℕ} {next : ℕ} {after : List ℕ
   more x =
       let e : at + length s + 1 ≡ at + length (s ++ x ∷ []) = omega (arith, length-append s (x ∷ [])) in
       record { ends = rw h.ends e; is = rw (h.ends, h.is) (put-snoc m at s x) }
-
--- a loop that copies: the first i bytes of s are written
-pub record Copying (m : List ℕ) (at : ℕ) (s out : List ℕ) (i : ℕ) : Type 0 where
-  pub within : i ≤ length s
-  pub long : length out ≡ length m
-  pub wrote : Wrote m at (take i s) (at + i) out
-
-pub begun : (m : List ℕ) (at : ℕ) (s : List ℕ) → Copying m at s m 0
-begun m at s = record { within = omega arith; long = refl; wrote = rw add-zero (wrote_none m at) }
-
-module _ {m : List ℕ} {at : ℕ} {s out : List ℕ} {i : ℕ} (h : Copying m at s out i) where
-  pub copied : i < length s → Copying m at s (set out (at + i) (get_or s i 0)) (i + 1)
-  copied l =
-      let e : at + (i + 1) ≡ at + i + 1 = omega arith in
-      record {
-        within = omega arith;
-        long = length-set out (at + i) (get_or s i 0) ∙ h.long;
-        wrote = rw (e, add-one i, take-suc s i 0 l) (more h.wrote (get_or s i 0));
-      }
-
-  pub all-copied : length s ≤ i → Wrote m at s (at + length s) out
-  all-copied l =
-      let e : i ≡ length s = omega (arith, h.within) in
-      rw (e, take-length s) at h.wrote

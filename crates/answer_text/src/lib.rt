@@ -8,14 +8,16 @@ ghost use Rattle.answer_text.specs.Text.{count_text, word_text, end_text, counts
 use refusal::Way;
 
 // The byte of a digit: 0 to 9, then a to f.
+#[tactic(auto, unfolding(crate::specs::Text::digit_of))]
 fn digit(d: u64) -> u8
     requires { d < 16 }
     ensures { result ≡ digit_of d }
 {
     if d < 10 {
-        return 48 + d as u8;
+        b'0' + d as u8
+    } else {
+        b'a' + (d - 10) as u8
     }
-    87 + d as u8
 }
 
 // Writes s from `at` on and answers the place behind it, as every writer here does.
@@ -23,10 +25,9 @@ fn text(out: &mut [u8], at: usize, s: &[u8]) -> usize
     requires { at + length s.now ≤ length out.old }
     ensures { Wrote out.old at s.now result out.new }
 {
-    for i in 0..s.len() {
-        out[at + i] = s[i];
-    }
-    at + s.len()
+    let end = at + s.len();
+    out[at..end].copy_from_slice(s);
+    end
 }
 
 // n in k hexadecimal digits, with zeros in front; of a longer number the last k.
@@ -77,6 +78,7 @@ fn word(out: &mut [u8], at: usize, label: &[u8], x: u64) -> usize
     text(out, b, b"\n")
 }
 
+#[tactic(auto, unfolding(crate::specs::Text::end_text))]
 fn end(out: &mut [u8], at: usize, e: Way) -> usize
     requires { at + 16 ≤ length out.old }
     ensures { Wrote out.old at (end_text e) result out.new }
@@ -113,14 +115,15 @@ fn weights(out: &mut [u8], at: usize, w: &[u64]) -> usize
     ensures { Wrote out.old at (weights_text w.now (length w.now)) result out.new }
 {
     let mut a = at;
-    for j in 0..w.len() {
-        a = weight(out, a, j, w[j]);
+    for (j, x) in w.iter().enumerate() {
+        a = weight(out, a, j, *x);
     }
     a
 }
 
 // Writes the lines of a fit that is done at the front of `out` and answers their length. With more than 64 weights or fewer than 2,048 bytes it
 // writes nothing and answers 0.
+#[tactic(auto, unfolding(crate::specs::Text::done_of, crate::specs::Text::laid))]
 pub fn write_done(
     out: &mut [u8],
     e: Way,
@@ -132,10 +135,7 @@ pub fn write_done(
 ) -> usize
     ensures { written result out.new ≡ done_of e rounds solver trials intercept w.now out.old }
 {
-    if w.len() > 64 {
-        return 0;
-    }
-    if out.len() < 2048 {
+    if w.len() > 64 || out.len() < 2048 {
         return 0;
     }
     let a = end(out, 0, e);

@@ -5,3 +5,4 @@ pub mod Turns
 pub mod Commute
 pub mod Norms
 pub mod Scans
+pub mod Ranges

@@ -11,7 +11,7 @@ use lib.Ieee.{Float, nan}
 use Rattle.numbers.specs.Ops.{◌⊕◌, ◌⊗◌}
 use Rattle.arrays.specs.Part.{part, put, tab}
 use Rattle.arrays.proofs.Part.{length-tab, length-put, get_or-part, put-tab-none, put-tab-more, put-put-same}
-use Rattle.arrays.proofs.Part.{part-put-apart, get_or-put-above, get_or-put-below, apart_of, apart-fewer, length_part, tab-all, put_all}
+use Rattle.arrays.proofs.Part.{part-put-apart, get_or-put-above, get_or-put-below, apart_of, apart-fewer, put_all}
 use Rattle.arrays.specs.Sums.{◌!◌, products}
 use Rattle.arrays.proofs.Folds.{fold-turn}
 use Rattle.arrays.specs.Vectors.{Clear}
@@ -93,11 +93,6 @@ pub map_more : (g : Float → Float) {s₀ : List Float} {out : ℕ} (a : ℕ) {
     → Made s₀ out n (λ k. g (part s₀ a n ! k)) s i → i < n → Clear out a n
     → Made s₀ out n (λ k. g (part s₀ a n ! k)) (set s (out + i) (g (get_or s (a + i) nan))) (i + 1)
 map_more g a m h k = zip_more (λ v w. g v) a a m h k k
-
--- the end of a loop that copies
-pub made-copy : {s₀ : List Float} {out n : ℕ} {s : List Float} {i : ℕ} (t : List Float) (a : ℕ) → Made s₀ out n (λ k. part t a n ! k) s i → n ≤ i
-    → a + n ≤ length t → s ≡ put s₀ out (part t a n)
-made-copy {n = n} t a m h l = rw (tab-all (part t a n) n nan (length_part t a n l)) at (made_all m h)
 
 -- one turn of a loop that sums the products of two parts
 pub products-more : (start : Float) (x : List Float) (a : ℕ) (y : List Float) (b n i : ℕ) (t : Float) → i < n

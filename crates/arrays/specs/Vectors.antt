@@ -28,3 +28,10 @@ pub record Two (s : List Float) (out a b n : ℕ) : Type 0 where
   pub second : b + n ≤ length s
   pub clear : Clear out a n
   pub clear2 : Clear out b n
+
+-- h is what a closure computes: `post` holds of what a call may return
+abbrev pub Gives : (Float → Float → Type 0) → (Float → Float) → Type 0
+Gives post h = (x r : Float) → post x r → r ≡ h x
+
+abbrev pub GivesOfTwo : (Float → Float → Float → Type 0) → (Float → Float → Float) → Type 0
+GivesOfTwo post h = (x y r : Float) → post x y r → r ≡ h x y

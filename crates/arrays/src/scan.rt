@@ -1,46 +1,28 @@
 // The scan for values that are not finite.
-ghost use Rattle.std.specs.Prelude.{◌≡◌};
+ghost use Rattle.std.specs.Prelude.{◌≡◌, is_none};
 ghost use Rattle.std.specs.Float.Ieee.Scale.{finite as is_finite};
-ghost use Rattle.arrays.specs.Scan.{first_infinite, is_clean};
-
-// What a scan finds: nothing, or the first index.
-#[derive(Clone, Copy)]
-pub enum Found {
-    Clean,
-    At(usize),
-}
+ghost use Rattle.arrays.specs.Scan.{first_infinite};
 
 // Neither infinity nor a NaN, which fails the first comparison.
 pub fn finite(x: f64) -> bool
     ensures { result ≡ is_finite x }
 {
-    if x < 1.0 / 0.0 { -1.0 / 0.0 < x } else { false }
+    -1.0 / 0.0 < x && x < 1.0 / 0.0
 }
 
 // Whether every value is finite. No value ends the loop, so that the compiler tests several at a time.
 fn clean(x: &[f64]) -> bool
-    ensures { result ≡ is_clean (first_infinite 0 x.now) }
+    ensures { result ≡ is_none (first_infinite 0 x.now) }
 {
-    let mut good = true;
-    for i in 0..x.len() {
-        if !finite(x[i]) {
-            good = false;
-        }
-    }
-    good
+    x.iter().fold(true, |good, v| good & finite(*v))
 }
 
-// The index of the first value that is infinite or a NaN. An empty slice is clean.
-pub fn first_infinite(x: &[f64]) -> Found
+// The index of the first value that is infinite or a NaN. An empty slice has none.
+pub fn first_infinite(x: &[f64]) -> Option<usize>
     ensures { result ≡ first_infinite 0 x.now }
 {
     if clean(x) {
-        return Found::Clean;
+        return None;
     }
-    for i in 0..x.len() {
-        if !finite(x[i]) {
-            return Found::At(i);
-        }
-    }
-    Found::Clean
+    x.iter().position(|v| !finite(*v))
 }

@@ -1,7 +1,7 @@
 // Sums of the n elements from `a` of a slice, in index order, each from the start that its line of the Rust has.
 ghost use Rattle.std.specs.Prelude.{◌≡◌, ◌+◌, ◌≤◌, ◌<◌, ◌^◌, length};
 ghost use Rattle.arrays.specs.Part.{part};
-ghost use Rattle.arrays.specs.Sums.{sum_of, dot_of, product_of, norm1_of, norm2_of, norm_inf_of, mean_of, whole};
+ghost use Rattle.arrays.specs.Sums.{sum_of, dot_of, product_of, norm1_of, norm2_of, norm_inf_of, mean_of, products, whole, ◌!◌};
 
 use numbers::bits::magnitude;
 use numbers::order::maximum;
@@ -12,11 +12,19 @@ pub fn sum(x: &[f64], a: usize, n: usize) -> f64
     requires { a + n ≤ length x.now }
     ensures { result ≡ sum_of n (part x.now a n) }
 {
-    let mut t = -0.0;
-    for i in 0..n {
-        t = t + x[a + i];
-    }
-    t
+    x[a..a + n].iter().fold(-0.0, |t, v| t + *v)
+}
+
+// The sum of the products of two parts.
+fn sum_of_products(start: f64, x: &[f64], a: usize, y: &[f64], b: usize, n: usize) -> f64
+    requires n_in_bounds { a + n ≤ length x.now }
+    requires n_in_bounds_2 { b + n ≤ length y.now }
+    ensures { result ≡ products start (λ i. part x.now a n ! i) (λ i. part y.now b n ! i) n }
+{
+    x[a..a + n]
+        .iter()
+        .zip(&y[b..b + n])
+        .fold(start, |t, (v, w)| t + *v * *w)
 }
 
 // From -0, which is the answer where n is 0.
@@ -25,11 +33,7 @@ pub fn dot(x: &[f64], a: usize, y: &[f64], b: usize, n: usize) -> f64
     requires n_in_bounds_2 { b + n ≤ length y.now }
     ensures { result ≡ dot_of n (part x.now a n) (part y.now b n) }
 {
-    let mut t = -0.0;
-    for i in 0..n {
-        t = t + x[a + i] * y[b + i];
-    }
-    t
+    sum_of_products(-0.0, x, a, y, b, n)
 }
 
 // Three dots: of a with itself, of b with itself, and of b with c.
@@ -59,24 +63,17 @@ pub fn three_dots(x: &[f64], a: usize, b: usize, c: usize, n: usize) -> Dots
         bb = bb + v * v;
         bc = bc + v * x[c + i];
     }
-    Dots {
-        aa: aa,
-        bb: bb,
-        bc: bc,
-    }
+    Dots { aa, bb, bc }
 }
 
 // As `dot`, but from +0: some lines of the Rust begin with the one and some with the other.
+#[tactic(auto, unfolding(crate::specs::Sums::product_of))]
 pub fn product(x: &[f64], a: usize, y: &[f64], b: usize, n: usize) -> f64
     requires n_in_bounds { a + n ≤ length x.now }
     requires n_in_bounds_2 { b + n ≤ length y.now }
     ensures { result ≡ product_of n (part x.now a n) (part y.now b n) }
 {
-    let mut t = 0.0;
-    for i in 0..n {
-        t = t + x[a + i] * y[b + i];
-    }
-    t
+    sum_of_products(0.0, x, a, y, b, n)
 }
 
 // The sum of the magnitudes, from +0.
@@ -84,14 +81,11 @@ pub fn norm_1(x: &[f64], a: usize, n: usize) -> f64
     requires { a + n ≤ length x.now }
     ensures { result ≡ norm1_of n (part x.now a n) }
 {
-    let mut t = 0.0;
-    for i in 0..n {
-        t = t + magnitude(x[a + i]);
-    }
-    t
+    x[a..a + n].iter().fold(0.0, |t, v| t + magnitude(*v))
 }
 
 // The root of the sum of squares, for the Rust's norm2 and its norm(2), whose definitions agree.
+#[tactic(auto, unfolding(crate::specs::Sums::product_of, crate::specs::Sums::norm2_of))]
 pub fn norm_2(x: &[f64], a: usize, n: usize) -> f64
     requires { a + n ≤ length x.now }
     ensures { result ≡ norm2_of n (part x.now a n) }
@@ -104,11 +98,9 @@ pub fn norm_inf(x: &[f64], a: usize, n: usize) -> f64
     requires { a + n ≤ length x.now }
     ensures { result ≡ norm_inf_of n (part x.now a n) }
 {
-    let mut t = -1.0 / 0.0;
-    for i in 0..n {
-        t = maximum(t, magnitude(x[a + i]));
-    }
-    t
+    x[a..a + n]
+        .iter()
+        .fold(-1.0 / 0.0, |t, v| maximum(t, magnitude(*v)))
 }
 
 // n as f64, exactly: it goes by way of u32, whose values an f64 has all.
@@ -120,6 +112,7 @@ pub fn float_of(n: usize) -> f64
 }
 
 // The sum from -0 over n: a NaN where n is 0.
+#[tactic(auto, unfolding(crate::specs::Sums::mean_of))]
 pub fn mean(x: &[f64], a: usize, n: usize) -> f64
     requires n_in_bounds { a + n ≤ length x.now }
     requires n_bound { n < 2 ^ 32 }

@@ -5,7 +5,6 @@ use mathlib.Core.List.{List}
 use Prim.Native.Nat.{ℕ, ◌*◌, ◌≤◌}
 use native.Mathlib.Nat.{mul-le-mul}
 use native.Mathlib.Omega.{arith}
-use lib.ListN.{length}
 use lib.Ieee.{Float, neg}
 use Rattle.numbers.specs.Constants.{one}
 use Rattle.arrays.specs.Part.{put}
@@ -15,46 +14,33 @@ use Rattle.arrays.proofs.Lengths.{length-fill}
 use Rattle.settings.specs.declared.Terms.{Terms}
 use Rattle.layout.specs.declared.Sizes.{Sizes}
 use Rattle.layout.specs.declared.Places.{Places}
-use Rattle.layout.specs.Slots.{Store, Has, Laid, vars, rest, words}
+use Rattle.layout.specs.declared.fit.Fit.{Fit}
+use Rattle.layout.proofs.Fits.{room_of}
+use Rattle.layout.specs.Slots.{Store, Has, HasRoom, Laid, vars, rest, words}
 use Rattle.layout.proofs.Slots.{then, next, cleared-of}
 use Rattle.layout.specs.Slots.{Slot.U, Slot.F}
 use Rattle.lazy_normalization.specs.Lazy.{recip_store}
 use Rattle.lazy_gram.specs.Gram.{lazy_gram_store, Lent}
 use Rattle.design.specs.Statistics.{Given}
 use Rattle.design.specs.Eager.{design_store, gram_store}
-use Rattle.beginning.specs.Start.{Begins, blank_store, prepared_store}
+use Rattle.beginning.specs.Start.{blank_store, prepared_store}
 
-module _ {sh : Sizes} {l : Places} {m s : List Float} (b : Begins sh l m s) where
-  -- scratch that is as long
-  pub begins-on : {s' : List Float} → length s' ≡ length s → Begins sh l m s'
-  begins-on e = record {
-    room = record { room = omega arith; laid = b.room.laid };
-    matrix = b.matrix;
-    some-rows = b.some-rows;
-    rows = b.rows;
-    some-columns = b.some-columns;
-    columns = b.columns;
-    all = b.all;
-    stored = b.stored;
-    panel-rows = b.panel-rows;
-    panel-columns = b.panel-columns;
-  }
+module _ (f : Fit) {s : List Float} (long : HasRoom f.sizes s) where
+  pub given : Given f.sizes f.places f.matrix.now s
+  given = record { room = room_of f long; matrix = f.lent; rows = f.rows; columns = f.small.columns }
 
-  pub given : Given sh l m s
-  given = record { room = b.room; matrix = omega (arith, b.matrix); rows = b.rows; columns = b.columns }
-
-  pub lent : sh.lazy ≡ true → Lent sh l m s
+  pub lent : f.sizes.lazy ≡ true → Lent f.sizes f.places f.matrix.now s
   lent z =
-      let least : sh.n ≤ sh.n = omega arith in
-      let few : sh.n * 1 ≤ sh.n * sh.p = mul-le-mul least b.some-columns in
+      let least : f.sizes.n ≤ f.sizes.n = omega arith in
+      let few : f.sizes.n * 1 ≤ f.sizes.n * f.sizes.p = mul-le-mul least f.some_columns in
       record {
-        room = b.room;
-        matrix = omega (arith, b.matrix);
-        rows = omega (arith, few, b.matrix);
-        columns = b.some-columns;
-        panel-rows = b.panel-rows z;
-        panel-columns = b.panel-columns z;
-        small = omega (arith, b.rows, b.columns);
+        room = room_of f long;
+        matrix = f.lent;
+        rows = omega (arith, few, f.lent);
+        columns = f.some_columns;
+        panel-rows = f.panel_rows z;
+        panel-columns = f.panel_columns z;
+        small = omega (arith, f.rows, f.small.columns);
       }
 
 pub blanked : {sh : Sizes} {l : Places} {e : List Float} {v : Store} {m m₁ m₂ m₃ : List Float} {need : ℕ} → Laid sh l → Has sh e v m → need ≡ words sh

@@ -1,13 +1,12 @@
 -- The vectors of a fresh fit. Definitions only.
-use Rattle.std.specs.Prelude.{◌≡◌, Bool, true, false, cond, List, ◌+◌, ◌*◌, ◌≤◌, length, Float}
+use Rattle.std.specs.Prelude.{Bool, cond, List, ◌*◌, Float}
 use Rattle.std.specs.Float.Ieee.{neg}
 use Rattle.numbers.specs.Constants.{one}
 use Rattle.arrays.specs.Sums.{plus0}
 use Rattle.arrays.specs.Vectors.{fill_of}
 use Rattle.settings.specs.declared.Terms.{Terms}
 use Rattle.layout.specs.declared.Sizes.{Sizes}
-use Rattle.layout.specs.declared.Places.{Places}
-use Rattle.layout.specs.Slots.{Store, Room, all_of, ◌⟨◌≔◌⟩}
+use Rattle.layout.specs.Slots.{Store, all_of, ◌⟨◌≔◌⟩}
 use Rattle.layout.specs.Slots.{Slot.U, Slot.F}
 use Rattle.lazy_normalization.specs.Lazy.{recip_store}
 use Rattle.lazy_gram.specs.Gram.{lazy_gram_store}
@@ -26,16 +25,3 @@ prepared_store sh normalise tm m v =
 -- a fresh fit, each part from those before it: statistics, targets, then the design and its Gram
 unfoldable pub start_store : Sizes → Bool → Terms → List Float → List Float → Store
 start_store sh normalise tm m ys = prepared_store sh normalise tm m (targets_store sh ys (statistics_store sh normalise m (blank_store sh)))
-
--- a matrix of n by p, sizes of a fit, and scratch
-pub record Begins (sh : Sizes) (l : Places) (m s : List Float) : Type 0 where
-  pub room : Room sh l s
-  pub matrix : length m ≡ sh.n * sh.p
-  pub some-rows : 1 ≤ sh.n
-  pub rows : sh.n ≤ 4096
-  pub some-columns : 1 ≤ sh.p
-  pub columns : sh.p ≤ 64
-  pub all : sh.k ≡ sh.n + sh.p
-  pub stored : sh.lazy ≡ false → sh.stored ≡ sh.k
-  pub panel-rows : sh.lazy ≡ true → 1 ≤ sh.pr
-  pub panel-columns : sh.lazy ≡ true → 1 ≤ sh.pc

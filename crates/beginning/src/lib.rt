@@ -2,66 +2,59 @@
 #![tactic(auto)]
 
 ghost use Rattle.std.specs.Prelude.{◌≡◌, ◌<◌, ◌^◌, length};
-ghost use Rattle.layout.specs.Slots.{Room, words, Makes};
+ghost use Rattle.layout.specs.Slots.{HasRoom, Makes};
 ghost use Rattle.lasso_optimizer.specs.Fit.{fresh};
-ghost use Rattle.beginning.specs.Start.{Begins, blank_store, prepared_store, start_store};
+ghost use Rattle.beginning.specs.Start.{blank_store, prepared_store, start_store};
 
 use arrays::vectors::{fill, sweep};
 use design::eager::augment;
 use design::statistics::{statistics, targets};
 use lasso_optimizer::Scalars;
-use layout::{Places, Sizes};
+use layout::fit::Fit;
+use layout::need;
 use lazy_normalization::reciprocals;
 use newton::first_t;
 use numbers::bits::canonical;
-use settings::Terms;
 
 // All needed words +0, then the bounds 1 and f -1.
-fn blank(s: &mut [f64], sh: Sizes, l: Places, need: usize)
-    requires room { Room sh l s.old }
-    requires need_value { need ≡ words sh }
-    ensures { Makes sh (λ _. blank_store sh) s.old s.new }
+fn blank(fit: &Fit, s: &mut [f64])
+    requires { HasRoom fit.now.sizes s.old }
+    ensures { Makes fit.now.sizes (λ _. blank_store fit.now.sizes) s.old s.new }
 {
-    fill(s, 0, need, 0.0);
-    fill(s, l.u, sh.p, 1.0);
-    fill(s, l.f, 2 * sh.p, -1.0);
+    fill(s, 0, need(fit.sizes), 0.0);
+    fill(s, fit.places.u, fit.sizes.p, 1.0);
+    fill(s, fit.places.f, 2 * fit.sizes.p, -1.0);
 }
 
 // The design and its Gram, or what a design that is not stored needs.
-fn prepare(m: &[f64], sh: Sizes, normalise: bool, tm: Terms, s: &mut [f64], l: Places)
-    requires { Begins sh l m.now s.old }
-    ensures { Makes sh (prepared_store sh normalise tm m.now) s.old s.new }
+fn prepare(fit: &Fit, s: &mut [f64])
+    requires { HasRoom fit.now.sizes s.old }
+    ensures { let f = fit.now in
+        Makes f.sizes (prepared_store f.sizes f.normalise f.terms f.matrix.now) s.old s.new }
 {
+    let sh = fit.sizes;
+    let l = fit.places;
     if sh.lazy {
         reciprocals(s, sh, l);
-        lazy_gram::gram(m, sh, tm, s, l);
+        lazy_gram::gram(fit.matrix, sh, fit.terms, s, l);
         return;
     }
-    augment(m, sh, normalise, tm, s, l);
+    augment(fit.matrix, sh, fit.normalise, fit.terms, s, l);
     eager_gram::gram(sh, s, l);
 }
 
 // Writes every needed word of the scratch, whatever it held. The sweep at the end changes no number: it leaves each NaN in its one pattern.
-pub fn begin(
-    m: &[f64],
-    y: &[f64],
-    sh: Sizes,
-    normalise: bool,
-    tm: Terms,
-    s: &mut [f64],
-    l: Places,
-    need: usize,
-)
-    requires begins { Begins sh l m.now s.old }
-    requires need_value { need ≡ words sh }
-    requires y_len { length y.now ≡ sh.n }
-    ensures { Makes sh (λ _. start_store sh normalise tm m.now y.now) s.old s.new }
+pub fn begin(fit: &Fit, y: &[f64], s: &mut [f64])
+    requires room { HasRoom fit.now.sizes s.old }
+    requires targets { length y.now ≡ fit.now.sizes.n }
+    ensures { let f = fit.now in
+        Makes f.sizes (λ _. start_store f.sizes f.normalise f.terms f.matrix.now y.now) s.old s.new }
 {
-    blank(s, sh, l, need);
-    statistics(m, sh, normalise, s, l);
-    targets(y, sh, s, l);
-    prepare(m, sh, normalise, tm, s, l);
-    sweep(s, 0, need);
+    blank(fit, s);
+    statistics(fit.matrix, fit.sizes, fit.normalise, s, fit.places);
+    targets(y, fit.sizes, s, fit.places);
+    prepare(fit, s);
+    sweep(s, 0, need(fit.sizes));
 }
 
 // The scalars before the first round: t by its formula, s infinite, so that the first round may raise t, and the others +0.

@@ -15,9 +15,9 @@ pub fn big_endian(b: &[u8], at: usize, k: usize) -> u64
     requires k_bound { k ≤ 8 }
     ensures { (result ≡ big_endian b.now at k) × (result < 256 ^ k) }
 {
-    let mut v = 0u64;
-    for j in 0..k {
-        v = v * 256 + b[at + j] as u64;
+    let mut v = 0;
+    for byte in &b[at..at + k] {
+        v = v * 256 + u64::from(*byte);
     }
     v
 }
@@ -26,7 +26,7 @@ pub fn two_bytes(b: &[u8], at: usize) -> usize
     requires { at + 2 ≤ length b.now }
     ensures { (result ≡ two_bytes b.now at) × (result < 65536) }
 {
-    big_endian(b, at, 2) as usize
+    usize::from(u16::from_be_bytes([b[at], b[at + 1]]))
 }
 
 pub fn float_at(b: &[u8], at: usize) -> f64
@@ -44,9 +44,9 @@ pub fn write_number(v: u64, k: usize, out: &mut [u8], at: usize)
     ensures { out.new ≡ put out.old at (bytes_of k v) }
 {
     let mut left = v;
-    for j in 0..k {
-        out[at + (k - 1 - j)] = (left % 256) as u8;
-        left = left / 256;
+    for j in (0..k).rev() {
+        out[at + j] = (left % 256) as u8;
+        left /= 256;
     }
 }
 
@@ -62,7 +62,5 @@ pub fn write_bytes(b: &[u8], out: &mut [u8], at: usize)
     requires { at + length b.now ≤ length out.old }
     ensures { out.new ≡ put out.old at b.now }
 {
-    for j in 0..b.len() {
-        out[at + j] = b[j];
-    }
+    out[at..at + b.len()].copy_from_slice(b);
 }

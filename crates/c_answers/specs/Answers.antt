@@ -1,15 +1,12 @@
 -- What a call's answer says, as words: kind (0 pending or ready, 1 converged, 2 limit, 3 refused), number, place, the three counts, the intercept.
 -- Definitions only.
-use Rattle.std.specs.Prelude.{Bool, false, not, List, [], ◌∷◌, ℕ, eqb}
+use Rattle.refusal.specs.declared.Refusal.{Refusal}
+use Rattle.std.specs.Prelude.{Bool, false, not, List, [], ◌∷◌, ℕ, eqb, Err, Ok, Result, ⊤, Float}
 use Rattle.refusal.specs.Refusal.{number_of, place_of, ends_fit}
 use Rattle.records.specs.declared.Counts.{Counts}
 use Rattle.refusal.specs.declared.Way.{Way}
 use Rattle.refusal.specs.declared.Way.TheVariants.{Converged as ConvergedW, Limit as LimitW}
 use Rattle.elastic_net.specs.ElasticNet.{Said, pending, converged, limit, refused, SaidS, ready, refused_s}
-use Rattle.prediction.specs.declared.Predicted.{Predicted}
-use Rattle.prediction.specs.declared.Predicted.TheVariants.{Done as DoneP, Refused as RefusedP}
-use Rattle.lone_solver.specs.declared.Answer.{Answer as AnswerL}
-use Rattle.lone_solver.specs.declared.Answer.TheVariants.{Solved as SolvedL, Refused as RefusedL}
 use Rattle.c_values.specs.Values.{bits}
 use Rattle.c_words.specs.declared.Told.{Told}
 use Rattle.c_words.specs.Words.{paused_words}
@@ -67,10 +64,10 @@ abbrev pub way_of : Way → ℕ
 way_of ConvergedW = 1
 way_of LimitW = 2
 
-abbrev pub told_predicted : Predicted → Told
-told_predicted DoneP = record { kind = 1; number = 0; place = 0; last = 0 }
-told_predicted (RefusedP r) = told_of (refused (number_of r) (place_of r))
+abbrev pub told_predicted : Result ⊤ Refusal → Told
+told_predicted (Ok tt) = record { kind = 1; number = 0; place = 0; last = 0 }
+told_predicted (Err r) = told_of (refused (number_of r) (place_of r))
 
-abbrev pub told_solved : AnswerL → Told
-told_solved (SolvedL e) = record { kind = 1; number = 0; place = 0; last = bits e }
-told_solved (RefusedL r) = told_of (refused (number_of r) (place_of r))
+abbrev pub told_solved : Result Float Refusal → Told
+told_solved (Ok e) = record { kind = 1; number = 0; place = 0; last = bits e }
+told_solved (Err r) = told_of (refused (number_of r) (place_of r))

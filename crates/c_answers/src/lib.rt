@@ -14,9 +14,8 @@ ghost use Rattle.c_answers.specs.Called.{Called.called, unread, counts_in};
 
 use c_values::SETTINGS_WORDS;
 use c_words::{Told, paused_from, write_answer, write_paused};
-use elastic_net::{Answer, Started};
+use elastic_net::Answer;
 use numbers::bits::bits_of;
-use prediction::Predicted;
 use records::{Counts, Paused, no_counts};
 use refusal::{Refusal, Way, ends_fit, in_size, number, place};
 
@@ -43,11 +42,11 @@ pub fn write_resumed(a: Answer, next: Paused, budget: u64, out: &mut [u64])
 }
 
 // The words of a fresh record; a start that is refused leaves them.
-pub fn write_started(o: Started, out: &mut [u64])
+pub fn write_started(o: Result<Paused, Refusal>, out: &mut [u64])
     requires { length out.old ≡ 16 }
     ensures { out.new ≡ started_record (said_s o) out.old }
 {
-    if let Started::Ready(a) = o {
+    if let Ok(a) = o {
         write_paused(a, out);
     }
 }
@@ -95,47 +94,47 @@ pub fn resumed(a: Answer) -> Told
 }
 
 // A fit that has started says what a pending one does.
-pub fn started(o: Started) -> Told
+pub fn started(o: Result<Paused, Refusal>) -> Told
     ensures { result ≡ told_of (started_said (said_s o)) }
 {
     match o {
-        Started::Ready(_) => Told {
+        Ok(_) => Told {
             kind: 0,
             number: 0,
             place: 0,
             last: 0,
         },
-        Started::Refused(r) => refused(r),
+        Err(r) => refused(r),
     }
 }
 
 // Predictions that are done are of kind 1; they stand in the slice that was lent.
-pub fn predicted(o: Predicted) -> Told
+pub fn predicted(o: Result<(), Refusal>) -> Told
     ensures { result ≡ told_predicted o }
 {
     match o {
-        Predicted::Done => Told {
+        Ok(()) => Told {
             kind: 1,
             number: 0,
             place: 0,
             last: 0,
         },
-        Predicted::Refused(r) => refused(r),
+        Err(r) => refused(r),
     }
 }
 
 // A solve that is done is of kind 1, and its last word the error's bits.
-pub fn solved(o: lone_solver::Answer) -> Told
+pub fn solved(o: Result<f64, Refusal>) -> Told
     ensures { result ≡ told_solved o }
 {
     match o {
-        lone_solver::Answer::Solved(e) => Told {
+        Ok(e) => Told {
             kind: 1,
             number: 0,
             place: 0,
             last: bits_of(e),
         },
-        lone_solver::Answer::Refused(r) => refused(r),
+        Err(r) => refused(r),
     }
 }
 
@@ -145,24 +144,18 @@ pub fn solved(o: lone_solver::Answer) -> Told
 pub fn due(settings: usize, rec: usize, answer: usize) -> bool
     ensures { result ≡ (eqb settings settings-words && eqb rec 16 && eqb answer 7) }
 {
-    if settings != SETTINGS_WORDS {
-        return false;
-    }
-    if rec != 16 {
-        return false;
-    }
-    answer == 7
+    settings == SETTINGS_WORDS && rec == 16 && answer == 7
 }
 
 // The counts that an answer shows with a wrong number of words: the record's, or 0 where it has not its 16.
+#[tactic(auto, unfolding(crate::specs::Called::counts_in))]
 pub fn counts_in(rec: &[u64]) -> Counts
     ensures { result ≡ counts_in rec.now }
 {
     if rec.len() != 16 {
         return no_counts();
     }
-    let a = paused_from(rec);
-    a.counts
+    paused_from(rec).counts
 }
 
 // 1 where n or p is out of range, else 2.

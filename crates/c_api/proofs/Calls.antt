@@ -1,4 +1,5 @@
 -- What each call over words returns and leaves, from what the calls within it say. Assumes nothing.
+use Rattle.std.specs.Prelude.{Err, Ok, Result, ⊤}
 use mathlib.Core.Path.{◌≡◌, refl, ap}
 use mathlib.Core.Bool.{Bool, true, false, ◌&&◌, cond}
 use mathlib.Core.List.{List, []}
@@ -18,14 +19,9 @@ use Rattle.records.specs.declared.Counts.{Counts}
 use Rattle.records.specs.declared.Paused.{Paused}
 use Rattle.records.specs.Record.{counts_back}
 use Rattle.elastic_net.specs.declared.Resumed.{Resumed}
-use Rattle.elastic_net.specs.declared.Started.{Started}
 use Rattle.elastic_net.specs.ElasticNet.{said, said_s, outcome, start_outcome, resume_of, start_of}
 use Rattle.checks.specs.Checks.{scratch_words}
-use Rattle.prediction.specs.declared.Predicted.{Predicted}
-use Rattle.prediction.specs.declared.Predicted.TheVariants.{Done as DoneP, Refused as RefusedP}
 use Rattle.prediction.specs.Predict.{Outcome.outcome as outcome_p, predict_of}
-use Rattle.lone_solver.specs.declared.Answer.{Answer as AnswerL}
-use Rattle.lone_solver.specs.declared.Answer.TheVariants.{Solved as SolvedL, Refused as RefusedL}
 use Rattle.lone_solver.specs.Solve.{Outcome.outcome as outcome_l, solve_of}
 use Rattle.c_words.specs.declared.Told.{Told}
 use Rattle.c_values.specs.Settings.{settings-words, settings_from}
@@ -97,7 +93,7 @@ module _ (n p : ℕ) (x y : List Float) (sw pw : List ℕ) (s : List Float) (aw 
   unfolding start_words
   start-not-due {c} q ec e = rw (q, ← ec) (others-kept (in_size n p) c aw pw [] s e)
 
-  pub start-due : (r : Started) (s' : List Float) {st : Settings} {pw' aw' : List ℕ} {t : Told} {c : Counts}
+  pub start-due : (r : Result Paused Refusal) (s' : List Float) {st : Settings} {pw' aw' : List ℕ} {t : Told} {c : Counts}
       → Due (length sw) (length pw) (length aw) ≡ true → st ≡ settings_from sw → start_outcome r s' ≡ start_of n p x y st s
       → pw' ≡ started_record (said_s r) pw → t ≡ told_of (started_said (said_s r)) → c ≡ counts_back none → aw' ≡ told_words t c
       → called t.number pw' aw' [] s' ≡ start_words n p x y sw pw s aw
@@ -106,10 +102,10 @@ module _ (n p : ℕ) (x y : List Float) (sw pw : List ℕ) (s : List Float) (aw 
 
 -- ---- predictions
 
-predicted-as : (r : Predicted) (out : List Float) → called (told_predicted r).number [] (told_words (told_predicted r) (counts_back none)) out [] ≡ predicted_as (outcome_p r out)
+predicted-as : (r : Result ⊤ Refusal) (out : List Float) → called (told_predicted r).number [] (told_words (told_predicted r) (counts_back none)) out [] ≡ predicted_as (outcome_p r out)
 unfolding predicted_as
-predicted-as DoneP out = refl
-predicted-as (RefusedP r) out = refl
+predicted-as (Ok tt) out = refl
+predicted-as (Err r) out = refl
 
 module _ (n p : ℕ) (x w : List Float) (b : Float) (out : List Float) (aw : List ℕ) where
   pub predict-not-due : {r : Refusal} {k : ℕ} → (length aw ≡ 7 → ⊥) → r ≡ cond (in_size n p) Length Size → k ≡ number_of r
@@ -117,17 +113,17 @@ module _ (n p : ℕ) (x w : List Float) (b : Float) (out : List Float) (aw : Lis
   unfolding predict_words unread
   predict-not-due h er ek = rw (ne_eqb (length aw) 7 h, ek, er)
 
-  pub predict-due : {r : Predicted} {out' : List Float} {aw' : List ℕ} {t : Told} {c : Counts} → length aw ≡ 7 → outcome_p r out' ≡ predict_of n p x w b out
+  pub predict-due : {r : Result ⊤ Refusal} {out' : List Float} {aw' : List ℕ} {t : Told} {c : Counts} → length aw ≡ 7 → outcome_p r out' ≡ predict_of n p x w b out
       → t ≡ told_predicted r → c ≡ counts_back none → aw' ≡ told_words t c → called t.number [] aw' out' [] ≡ predict_words n p x w b out aw
   unfolding predict_words
   predict-due {r} {out'} h o et ec ew = rw (eq-eqb (length aw) 7 h, ← o, ew, et, ec) (predicted-as r out')
 
 -- ---- the lone solver
 
-solved-as : (r : AnswerL) (x s : List Float) → called (told_solved r).number [] (told_words (told_solved r) (counts_back none)) x s ≡ solved_as (outcome_l r x s)
+solved-as : (r : Result Float Refusal) (x s : List Float) → called (told_solved r).number [] (told_words (told_solved r) (counts_back none)) x s ≡ solved_as (outcome_l r x s)
 unfolding solved_as
-solved-as (SolvedL e) x s = refl
-solved-as (RefusedL r) x s = refl
+solved-as (Ok e) x s = refl
+solved-as (Err r) x s = refl
 
 module _ (n : ℕ) (a b x : List Float) (tol : Float) (limit : ℕ) (s : List Float) (aw : List ℕ) where
   pub solve-not-due : {r : Refusal} {k : ℕ} → (length aw ≡ 7 → ⊥) → r ≡ cond (in_size 1 n) Length Size → k ≡ number_of r
@@ -135,7 +131,7 @@ module _ (n : ℕ) (a b x : List Float) (tol : Float) (limit : ℕ) (s : List Fl
   unfolding solve_words unread
   solve-not-due h er ek = rw (ne_eqb (length aw) 7 h, ek, er)
 
-  pub solve-due : {r : AnswerL} {x' s' : List Float} {aw' : List ℕ} {t : Told} {c : Counts} → length aw ≡ 7 → outcome_l r x' s' ≡ solve_of n a b x tol limit s
+  pub solve-due : {r : Result Float Refusal} {x' s' : List Float} {aw' : List ℕ} {t : Told} {c : Counts} → length aw ≡ 7 → outcome_l r x' s' ≡ solve_of n a b x tol limit s
       → t ≡ told_solved r → c ≡ counts_back none → aw' ≡ told_words t c → called t.number [] aw' x' s' ≡ solve_words n a b x tol limit s aw
   unfolding solve_words
   solve-due {r} {x'} {s'} h o et ec ew = rw (eq-eqb (length aw) 7 h, ← o, ew, et, ec) (solved-as r x' s')

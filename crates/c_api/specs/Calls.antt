@@ -1,5 +1,5 @@
 -- What the calls over words return and leave. Definitions only.
-use Rattle.std.specs.Prelude.{◌≡◌, ◌&&◌, cond, List, [], ◌∷◌, ℕ, eqb, leb, length, Float}
+use Rattle.std.specs.Prelude.{◌≡◌, ◌&&◌, cond, List, [], ◌∷◌, ℕ, eqb, leb, length, Float, Err, Ok}
 use Rattle.pause.specs.Parts.{none}
 use Rattle.records.specs.Record.{counts_back}
 use Rattle.elastic_net.specs.ElasticNet.{Outcome, StartOutcome, resume_of, start_of}
@@ -7,9 +7,7 @@ use Rattle.refusal.specs.declared.Refusal.{Refusal}
 use Rattle.refusal.specs.Refusal.{number_of, place_of}
 use Rattle.refusal.specs.Sizes.{in_size}
 use Rattle.checks.specs.Checks.{scratch_words}
-use Rattle.prediction.specs.declared.Predicted.TheVariants.{Done as DoneP, Refused as RefusedP}
 use Rattle.prediction.specs.Predict.{Outcome as OutcomeP, Outcome.outcome as outcome_p, predict_of}
-use Rattle.lone_solver.specs.declared.Answer.TheVariants.{Solved as SolvedL, Refused as RefusedL}
 use Rattle.lone_solver.specs.Solve.{Outcome as OutcomeL, Outcome.outcome as outcome_l, solve_of}
 use Rattle.c_values.specs.Values.{bits}
 use Rattle.c_values.specs.Settings.{settings-words, settings_from}
@@ -60,16 +58,16 @@ abbrev pub refused_as : Refusal → List Float → List Float → Called
 refused_as r x s = called (number_of r) [] (short_words 3 (number_of r) (place_of r) 0) x s
 
 unfoldable pub predicted_as : OutcomeP → Called
-predicted_as (outcome_p DoneP out) = called 0 [] (short_words 1 0 0 0) out []
-predicted_as (outcome_p (RefusedP r) out) = refused_as r out []
+predicted_as (outcome_p (Ok tt) out) = called 0 [] (short_words 1 0 0 0) out []
+predicted_as (outcome_p (Err r) out) = refused_as r out []
 
 -- n, p, matrix, weights, intercept, predictions, answer
 unfoldable pub predict_words : ℕ → ℕ → List Float → List Float → Float → List Float → List ℕ → Called
 predict_words n p x w b out aw = cond (eqb (length aw) 7) (predicted_as (predict_of n p x w b out)) (unread (in_size n p) (counts_back none) [] aw out [])
 
 unfoldable pub solved_as : OutcomeL → Called
-solved_as (outcome_l (SolvedL e) x s) = called 0 [] (short_words 1 0 0 (bits e)) x s
-solved_as (outcome_l (RefusedL r) x s) = refused_as r x s
+solved_as (outcome_l (Ok e) x s) = called 0 [] (short_words 1 0 0 (bits e)) x s
+solved_as (outcome_l (Err r) x s) = refused_as r x s
 
 -- n, matrix, right side, start and solution, tolerance, limit, scratch, answer
 unfoldable pub solve_words : ℕ → List Float → List Float → List Float → Float → ℕ → List Float → List ℕ → Called

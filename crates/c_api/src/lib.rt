@@ -81,12 +81,9 @@ pub fn xangoravit_resume(
         w,
         budget,
     );
-    let a = o.answer;
-    let next = o.paused;
-    let c = next.counts;
-    write_resumed(a, next, budget, rec);
-    let t = resumed(a);
-    write_answer(t, c, answer);
+    write_resumed(o.answer, o.paused, budget, rec);
+    let t = resumed(o.answer);
+    write_answer(t, o.paused.counts, answer);
     t.number
 }
 

@@ -1,4 +1,6 @@
 -- The contracts of `start` and `resume` can be met: there is an answer that says what each definition has. Assumes nothing.
+use Rattle.refusal.specs.declared.Refusal.{Refusal}
+use Rattle.std.specs.Prelude.{Result, ⊤, Ok, Err}
 use Prim.Native.Nat.{ℕ}
 use mathlib.Core.Path.{◌≡◌, refl, ap}
 use mathlib.Core.Bool.{Bool, cond}
@@ -7,8 +9,6 @@ use lib.ListN.{length}
 use lib.Ieee.{Float}
 use Rattle.refusal.specs.declared.Failure.{Failure}
 use Rattle.refusal.specs.declared.Refusal.TheVariants.{Record}
-use Rattle.refusal.specs.declared.Checked.{Checked}
-use Rattle.refusal.specs.declared.Checked.TheVariants.{Fine, Bad}
 use Rattle.settings.specs.declared.Settings.{Settings}
 use Rattle.settings.specs.Settings.{terms_of}
 use Rattle.layout.specs.declared.Sizes.{Sizes}
@@ -28,8 +28,6 @@ use Rattle.refusal.specs.Refusal.{refused_by}
 use Rattle.elastic_net.specs.declared.Answer.{Answer}
 use Rattle.elastic_net.specs.declared.Answer.TheVariants.{Pending, Done, Refused}
 use Rattle.elastic_net.specs.declared.Resumed.{Resumed}
-use Rattle.elastic_net.specs.declared.Started.{Started}
-use Rattle.elastic_net.specs.declared.Started.TheVariants.{Ready as ReadyS, Refused as RefusedS}
 use Rattle.elastic_net.specs.ElasticNet.{Said, said, Outcome, end_outcome, ending, shown, by_check, resume_of, SaidS, said_s, StartOutcome, by_start_check, start_of}
 use Rattle.promises.specs.Chain.{Starts, Resumes}
 use Rattle.promises.proofs.Calls.{parts_of}
@@ -46,17 +44,17 @@ module _ (sh : Sizes) (normalise : Bool) (gamma : Float) (ys e w : List Float) w
   shown-answered (over (end (failed x) c d)) = record { answer = Refused (refused_by x); is = refl }
   shown-answered (going z) = record { answer = Pending; is = refl }
 
-by-check : (k : Checked) (a : Paused) (w s : List Float) (o : Outcome) → Answered o.answer → Answered (by_check k a w s o).answer
-by-check Fine a w s o h = h
-by-check (Bad r) a w s o h = record { answer = Refused r; is = refl }
+by-check : (k : Result ⊤ Refusal) (a : Paused) (w s : List Float) (o : Outcome) → Answered o.answer → Answered (by_check k a w s o).answer
+by-check (Ok tt) a w s o h = h
+by-check (Err r) a w s o h = record { answer = Refused r; is = refl }
 
 record AnsweredS (t : SaidS) : Type 0 where
-  answer : Started
+  answer : Result Paused Refusal
   is : said_s answer ≡ t
 
-by-start-check : (k : Checked) (s : List Float) (o : StartOutcome) → AnsweredS o.answer → AnsweredS (by_start_check k s o).answer
-by-start-check Fine s o h = h
-by-start-check (Bad r) s o h = record { answer = RefusedS r; is = refl }
+by-start-check : (k : Result ⊤ Refusal) (s : List Float) (o : StartOutcome) → AnsweredS o.answer → AnsweredS (by_start_check k s o).answer
+by-start-check (Ok tt) s o h = h
+by-start-check (Err r) s o h = record { answer = Err r; is = refl }
 
 module _ (n p : ℕ) (x y : List Float) (st : Settings) where
   answered : (a : Paused) (s w : List Float) (b : ℕ) → Answered (resume_of n p x y st a s w b).answer
@@ -64,14 +62,14 @@ module _ (n p : ℕ) (x y : List Float) (st : Settings) where
   answered a s w b =
       let sh = sizes_of n p st in
       by-check (limits_of n p (length x) (length y) (length w) st (length s)) a w s _
-      (by-check (cond (possible_of st.max_iter a) Fine (Bad Record)) a w s _
+      (by-check (cond (possible_of st.max_iter a) (Ok tt) (Err Record)) a w s _
       (shown-answered sh st.normalise (terms_of st n).gamma y (rest sh s) w (call (parts_of n p x st) st.max_iter b (state_of a (vars sh s)))))
 
   answered_s : (s : List Float) → AnsweredS (start_of n p x y st s).answer
   unfolding start_of
   answered_s s =
       by-start-check (limits_of n p (length x) (length y) p st (length s)) s _
-      (by-start-check (start_values x y n p st.normalise) s _ (record { answer = ReadyS _; is = refl }))
+      (by-start-check (start_values x y n p st.normalise) s _ (record { answer = Ok _; is = refl }))
 
   -- a call of `resume` that its contract allows, and one of `start`
   pub record Resuming (a : Paused) (s w : List Float) (b : ℕ) : Type 0 where
@@ -79,7 +77,7 @@ module _ (n p : ℕ) (x y : List Float) (st : Settings) where
     pub allowed : Resumes n p x y st a s w b result (resume_of n p x y st a s w b).weights (resume_of n p x y st a s w b).scratch
 
   pub record Starting (s : List Float) : Type 0 where
-    pub result : Started
+    pub result : Result Paused Refusal
     pub allowed : Starts n p x y st s result (start_of n p x y st s).scratch
 
   pub resuming : (a : Paused) (s w : List Float) (b : ℕ) → Resuming a s w b

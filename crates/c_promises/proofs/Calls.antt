@@ -1,4 +1,5 @@
 -- One call over words is one call of `start` or `resume`, and the words that it leaves are read as the record that it leaves. Assumes nothing.
+use Rattle.std.specs.Prelude.{Result, ⊤, Ok, Err}
 use Prim.Native.Nat.{ℕ}
 use native.Mathlib.Omega.{arith}
 use mathlib.Core.Path.{◌≡◌, refl, ap, sym, ◌∙◌}
@@ -10,8 +11,6 @@ use lib.Ieee.{Float}
 use borrow.Author.Tests.{eq-eqb, eqb-true}
 use Rattle.refusal.specs.declared.Refusal.{Refusal}
 use Rattle.refusal.specs.declared.Refusal.TheVariants.{Size, Length}
-use Rattle.refusal.specs.declared.Checked.{Checked}
-use Rattle.refusal.specs.declared.Checked.TheVariants.{Fine, Bad}
 use Rattle.refusal.specs.Sizes.{in_size}
 use Rattle.refusal.proofs.Asking.{both_true}
 use Rattle.refusal.proofs.Numbers.{not-0}
@@ -24,8 +23,6 @@ use Rattle.records.specs.Records.{spent_at}
 use Rattle.records.proofs.Laws.{spent-over}
 use Rattle.elastic_net.specs.declared.Answer.{Answer}
 use Rattle.elastic_net.specs.declared.Resumed.{Resumed}
-use Rattle.elastic_net.specs.declared.Started.{Started}
-use Rattle.elastic_net.specs.declared.Started.TheVariants.{Ready as ReadyS, Refused as RefusedS}
 use Rattle.elastic_net.specs.ElasticNet.{Said, pending, converged, limit, refused, said, Outcome, outcome, end_outcome, ending, shown, resume_of, StartOutcome, start_outcome, start_of}
 use Rattle.promises.specs.Chain.{Starts, Resumes}
 use Rattle.promises.specs.Refused.{resume_check, Unchanged}
@@ -52,7 +49,7 @@ module _ (n p : ℕ) (x y : List Float) (st : Settings) (a : Paused) (s w : List
     told : {g : Answer} → Unchanged a s w r w' s' g → (r.paused ≡ a) × (w' ≡ w) × (s' ≡ s)
     told u = (u.paused, u.weights, u.scratch)
 
-    run : (o : Bool) → resume_check n p x y st a s w ≡ Fine → spent_at st.max_iter a ≡ o → (r.paused ≡ a) × (w' ≡ w) × (s' ≡ s)
+    run : (o : Bool) → resume_check n p x y st a s w ≡ Ok tt → spent_at st.max_iter a ≡ o → (r.paused ≡ a) × (w' ≡ w) × (s' ≡ s)
     run true e o =
         let i = rw (spent-over st.max_iter a (parts_of n p x st) o 0 (vars (sizes_of n p st) s)) at (resume-accepted n p x y st a s w 0 r w' s' c e) in
         let j = ap (λ (t : Outcome). t.answer) i in
@@ -60,9 +57,9 @@ module _ (n p : ℕ) (x y : List Float) (st : Settings) (a : Paused) (s w : List
         absurd (omega arith)
     run false e o = let k = allowed n p x y st a s w e in told (budget-0 n p x y st a s w r w' s' c k.limits k.passes o)
 
-    go : (k : Checked) → resume_check n p x y st a s w ≡ k → (r.paused ≡ a) × (w' ≡ w) × (s' ≡ s)
-    go (Bad q) e = told (resume-refused n p x y st a s w 0 r w' s' c q e)
-    go Fine e = run (spent_at st.max_iter a) e refl
+    go : (k : Result ⊤ Refusal) → resume_check n p x y st a s w ≡ k → (r.paused ≡ a) × (w' ≡ w) × (s' ≡ s)
+    go (Err q) e = told (resume-refused n p x y st a s w 0 r w' s' c q e)
+    go (Ok tt) e = run (spent_at st.max_iter a) e refl
 
 -- ---- what the words say
 
@@ -83,7 +80,7 @@ module _ (n p : ℕ) (x y : List Float) (sw pw : List ℕ) (s : List Float) (aw 
   pub record Began : Type 0 where
     pub settings : length sw ≡ settings-words
     pub paused : Paused
-    pub starts : Starts n p x y (settings_from sw) s (ReadyS paused) s'
+    pub starts : Starts n p x y (settings_from sw) s (Ok paused) s'
     pub back : paused_from pw' ≡ paused
     pub long : length pw' ≡ 16
 
@@ -103,11 +100,11 @@ module _ (n p : ℕ) (x y : List Float) (sw pw : List ℕ) (s : List Float) (aw 
         absurd (not-0 (cond (in_size n p) Length Size) (cc))
 
   module _ (o : StartOutcome) (is : called 0 pw' aw' [] s' ≡ started_as pw o) (s₂ : List Float) where
-    ready_words : (a : Paused) → start_outcome (ReadyS a) s₂ ≡ o → (pw' ≡ paused_words a) × (s' ≡ s₂)
+    ready_words : (a : Paused) → start_outcome (Ok a) s₂ ≡ o → (pw' ≡ paused_words a) × (s' ≡ s₂)
     unfolding started_as
     ready_words a e = let d = rw (← e) at is in (cc, cc)
 
-    not-refused : (r : Refusal) → start_outcome (RefusedS r) s₂ ≡ o → ⊥
+    not-refused : (r : Refusal) → start_outcome (Err r) s₂ ≡ o → ⊥
     unfolding started_as
     not-refused r e = let d = rw (← e) at is in not-0 r (cc)
 
@@ -116,11 +113,11 @@ module _ (n p : ℕ) (x y : List Float) (sw pw : List ℕ) (s : List Float) (aw 
     o : StartOutcome
     o = start_of n p x y (settings_from sw) s
 
-    go : (t : Started) → (starting n p x y (settings_from sw) s).result ≡ t → Began
-    go (ReadyS a) e =
-        let k : start_outcome (ReadyS a) o.scratch ≡ o = rw e at (starting n p x y (settings_from sw) s).allowed in
+    go : (t : Result Paused Refusal) → (starting n p x y (settings_from sw) s).result ≡ t → Began
+    go (Ok a) e =
+        let k : start_outcome (Ok a) o.scratch ≡ o = rw e at (starting n p x y (settings_from sw) s).allowed in
         let (hp, hs) = ready_words o due.is o.scratch a k in
-        let h : Starts n p x y (settings_from sw) s (ReadyS a) s' = rw hs k in
+        let h : Starts n p x y (settings_from sw) s (Ok a) s' = rw hs k in
         record {
           settings = due.settings;
           paused = a;
@@ -128,7 +125,7 @@ module _ (n p : ℕ) (x y : List Float) (sw pw : List ℕ) (s : List Float) (aw 
           back = rw hp (start-again n p x y (settings_from sw) s s' a h);
           long = rw hp (long-record a);
         }
-    go (RefusedS r) e = absurd (not-refused o due.is o.scratch r (rw e at (starting n p x y (settings_from sw) s).allowed))
+    go (Err r) e = absurd (not-refused o due.is o.scratch r (rw e at (starting n p x y (settings_from sw) s).allowed))
 
 -- ---- a resuming call
 

@@ -1,4 +1,6 @@
 -- Every scalar of a record that `start` or `resume` hands back is a value of binary64, so its words say the record again. Assumes nothing.
+use Rattle.refusal.specs.declared.Refusal.{Refusal}
+use Rattle.std.specs.Prelude.{Result, ⊤, Ok, Err}
 use Prim.Native.Nat.{ℕ}
 use native.Mathlib.Omega.{arith}
 use mathlib.Core.Path.{◌≡◌, refl, ap}
@@ -9,8 +11,6 @@ use lib.Ieee.{Float, binary64}
 use lib.Ieee.Bits.{of_bits-fits}
 use Rattle.refusal.specs.declared.Failure.{Failure}
 use Rattle.refusal.specs.declared.Refusal.TheVariants.{Record}
-use Rattle.refusal.specs.declared.Checked.{Checked}
-use Rattle.refusal.specs.declared.Checked.TheVariants.{Fine, Bad}
 use Rattle.settings.specs.declared.Settings.{Settings}
 use Rattle.settings.specs.Settings.{terms_of}
 use Rattle.layout.specs.declared.Sizes.{Sizes}
@@ -34,7 +34,6 @@ use Rattle.checks.specs.Checks.{limits_of}
 use Rattle.records.specs.Records.{possible_of, spent_at, ended_of}
 use Rattle.records.proofs.Laws.{possible-sane, spent-over}
 use Rattle.elastic_net.specs.declared.Resumed.{Resumed}
-use Rattle.elastic_net.specs.declared.Started.TheVariants.{Ready as ReadyS}
 use Rattle.elastic_net.specs.ElasticNet.{Outcome, end_outcome, ending, shown}
 use Rattle.promises.specs.Chain.{Starts, Resumes, Chain, last, more}
 use Rattle.promises.specs.Refused.{first_of, resume_check}
@@ -95,24 +94,24 @@ module _ (n p : ℕ) (x : List Float) (st : Settings) (a : Paused) (passes : pos
 
 -- ---- a call that nothing refuses
 
-both-fine : (j : Checked) (b : Bool) → first_of j (cond b Fine (Bad Record)) ≡ Fine → (j ≡ Fine) × (b ≡ true)
-both-fine Fine true h = (refl, refl)
-both-fine Fine false h = let z : ◌≡◌ {A = ℕ} 0 1 = cc in absurd (omega arith)
-both-fine (Bad r) b h = let z : ◌≡◌ {A = ℕ} 0 1 = cc in absurd (omega arith)
+both-fine : (j : Result ⊤ Refusal) (b : Bool) → first_of j (cond b (Ok tt) (Err Record)) ≡ Ok tt → (j ≡ Ok tt) × (b ≡ true)
+both-fine (Ok tt) true h = (refl, refl)
+both-fine (Ok tt) false h = let z : ◌≡◌ {A = ℕ} 0 1 = cc in absurd (omega arith)
+both-fine (Err r) b h = let z : ◌≡◌ {A = ℕ} 0 1 = cc in absurd (omega arith)
 
 -- 1 to 4 do not, and 9 does not
 pub record Allowed (n p : ℕ) (x y : List Float) (st : Settings) (a : Paused) (s w : List Float) : Type 0 where
-  pub limits : limits_of n p (length x) (length y) (length w) st (length s) ≡ Fine
+  pub limits : limits_of n p (length x) (length y) (length w) st (length s) ≡ Ok tt
   pub passes : possible_of st.max_iter a ≡ true
 
-pub allowed : (n p : ℕ) (x y : List Float) (st : Settings) (a : Paused) (s w : List Float) → resume_check n p x y st a s w ≡ Fine → Allowed n p x y st a s w
+pub allowed : (n p : ℕ) (x y : List Float) (st : Settings) (a : Paused) (s w : List Float) → resume_check n p x y st a s w ≡ Ok tt → Allowed n p x y st a s w
 allowed n p x y st a s w e =
     let (l, q) = both-fine (limits_of n p (length x) (length y) (length w) st (length s)) (possible_of st.max_iter a) e in
     record { limits = l; passes = q }
 
 module _ (n p : ℕ) (x y : List Float) (st : Settings) where
   -- A START'S RECORD
-  pub start-fit : (s s₁ : List Float) (a : Paused) → Starts n p x y st s (ReadyS a) s₁ → Fit a.scalars
+  pub start-fit : (s s₁ : List Float) (a : Paused) → Starts n p x y st s (Ok a) s₁ → Fit a.scalars
   unfolding paused_of
   start-fit s s₁ a h = rw (start-poised n p x y st s s₁ a h).is (fresh-fit _ _)
 
@@ -120,9 +119,9 @@ module _ (n p : ℕ) (x y : List Float) (st : Settings) where
   pub resume-fit : (a : Paused) (s w : List Float) (b : ℕ) (r : Resumed) (w' s' : List Float) → Resumes n p x y st a s w b r w' s' → Fit a.scalars
       → Fit r.paused.scalars
   resume-fit a s w b r w' s' c f = go (resume_check n p x y st a s w) refl where
-    go : (k : Checked) → resume_check n p x y st a s w ≡ k → Fit r.paused.scalars
-    go (Bad q) e = rw (resume-refused n p x y st a s w b r w' s' c q e).paused f
-    go Fine e =
+    go : (k : Result ⊤ Refusal) → resume_check n p x y st a s w ≡ k → Fit r.paused.scalars
+    go (Err q) e = rw (resume-refused n p x y st a s w b r w' s' c q e).paused f
+    go (Ok tt) e =
         let sh = sizes_of n p st in
         let v = vars sh s in
         let i = ap (λ (t : Outcome). t.paused) (resume-accepted n p x y st a s w b r w' s' c e) in
@@ -137,7 +136,7 @@ module _ (n p : ℕ) (x y : List Float) (st : Settings) where
   chain-fit _ a s r w' s' (more {b} {bs} w l r₁ w₁ s₁ c pend then) f = chain-fit bs r₁.paused s₁ r w' s' then (resume-fit a s w b r₁ w₁ s₁ c f)
 
   -- SO ITS WORDS SAY IT AGAIN
-  pub start-again : (s s₁ : List Float) (a : Paused) → Starts n p x y st s (ReadyS a) s₁ → paused_from (paused_words a) ≡ a
+  pub start-again : (s s₁ : List Float) (a : Paused) → Starts n p x y st s (Ok a) s₁ → paused_from (paused_words a) ≡ a
   start-again s s₁ a h = record-round-trip a (start-fit s s₁ a h)
 
   pub resume-again : (a : Paused) (s w : List Float) (b : ℕ) (r : Resumed) (w' s' : List Float) → Resumes n p x y st a s w b r w' s' → Fit a.scalars

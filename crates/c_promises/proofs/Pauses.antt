@@ -1,4 +1,5 @@
 -- Condition 3 over words: a caller who gives back the words that it got ends as smartcore's fit. Assumes nothing.
+use Rattle.std.specs.Prelude.{Ok}
 use Prim.Native.Nat.{ℕ}
 use mathlib.Core.Path.{◌≡◌, refl, ap, ◌∙◌}
 use mathlib.Core.Bool.{Bool}
@@ -16,7 +17,6 @@ use Rattle.lasso_optimizer.specs.Data.{Data}
 use Rattle.records.specs.declared.Paused.{Paused}
 use Rattle.stages.specs.Stage.{how_of}
 use Rattle.elastic_net.specs.declared.Resumed.{Resumed}
-use Rattle.elastic_net.specs.declared.Started.TheVariants.{Ready as ReadyS}
 use Rattle.elastic_net.specs.ElasticNet.{outcome, end_outcome, ending}
 use Rattle.smartcore.specs.ElasticNet.{fit}
 use Rattle.unbroken_fit.specs.Unbroken.{fit_of}
@@ -84,7 +84,7 @@ module _ (n p : ℕ) (x y : List Float) (sw pw : List ℕ) (s : List Float) (aw 
   -- calls of `start` and `resume` that end a fit, and that calls over words return and leave the words of
   pub record EndsWith (bs : List ℕ) (z : Called) (w s₂ : List Float) : Type 0 where
     pub paused : Paused
-    pub starts : Starts n p x y (settings_from sw) s (ReadyS paused) s₁
+    pub starts : Starts n p x y (settings_from sw) s (Ok paused) s₁
     pub result : Resumed
     pub chain : Chain n p x y (settings_from sw) bs paused s₁ result w s₂
     pub says : z ≡ end_words (outcome result w s₂)

@@ -10,7 +10,7 @@ ghost use Rattle.column_moments.specs.Stats.{column_mean_of, deviation_of, Momen
 ghost use Rattle.column_moments.specs.Added.{rows_added, Adds};
 
 use arrays::sums::float_of;
-use arrays::vectors::fill;
+use arrays::vectors::{fill, map, zip};
 use numbers::powers::{Exponent, power};
 use numbers::square_root::root;
 
@@ -42,6 +42,7 @@ fn add_fours(m: &[f64], q: usize, s: &mut [f64], sums: usize, squares: usize, co
 }
 
 // The same of four rows from `at` on: both sums of a column are read and written once for the four.
+#[tactic(auto, using(matrices::proofs::Lengths::row_room))]
 fn add_four(m: &[f64], at: usize, s: &mut [f64], sums: usize, squares: usize, cols: usize)
     requires { Adds m.now at 4 cols s.old sums squares }
     ensures { s.new ≡ rows_added s.old sums squares m.now at cols 4 }
@@ -60,6 +61,7 @@ fn add_four(m: &[f64], at: usize, s: &mut [f64], sums: usize, squares: usize, co
 }
 
 // The same of the rows that are left, one at a time.
+#[tactic(auto, using(matrices::proofs::Lengths::row_room))]
 fn add_rows(
     m: &[f64],
     at: usize,
@@ -95,9 +97,7 @@ fn finish_means(s: &mut [f64], out: usize, d: f64, cols: usize)
     requires { out + cols ≤ length s.old }
     ensures { s.new ≡ put s.old out (map_of (λ (v : Float). v ⊘ d) cols (part s.old out cols)) }
 {
-    for j in 0..cols {
-        s[out + j] = s[out + j] / d;
-    }
+    map(s, out, out, cols, |v| v / d);
 }
 
 // The variance over raw sums, then its root: a NaN where the computed variance is negative.
@@ -106,8 +106,12 @@ fn finish_deviations(s: &mut [f64], out: usize, means: usize, d: f64, cols: usiz
     ensures { s.new ≡ put s.old out (zip_of (λ (v mu : Float). root_of (v ⊘ d ⊖ mu ⊗ mu)) cols (part s.old out cols)
         (part s.old means cols)) }
 {
-    for j in 0..cols {
-        let mu = s[means + j];
-        s[out + j] = root(s[out + j] / d - power(mu, Exponent::Two));
-    }
+    zip(
+        s,
+        out,
+        out,
+        means,
+        cols,
+        |v, mu| root(v / d - power(mu, Exponent::Two)),
+    );
 }

@@ -1,4 +1,5 @@
 -- The table of 01's corners holds: each row by computation. Assumes nothing.
+use Rattle.std.specs.Prelude.{Ok}
 use mathlib.Core.Path.{◌≡◌, refl, ap}
 use mathlib.Core.Bool.{true}
 use mathlib.Core.List.{List, [], map}
@@ -18,7 +19,6 @@ use Rattle.arrays.specs.Sums.{fold_to, sum_of, mean_of, dot_of, norm1_of, norm2_
 use Rattle.arrays.specs.Vectors.{fill_of, map_of, zip_of}
 use Rattle.matrices.specs.Grid.{grid}
 use Rattle.matrices.specs.Products.{rows_of, columns_of}
-use Rattle.refusal.specs.declared.Checked.TheVariants.{Fine}
 use Rattle.settings.specs.declared.Settings.{Settings}
 use Rattle.settings.specs.Settings.{gamma_of, l1_of, l2_of, terms_of, allowed_of, range_of, panels_of}
 use Rattle.settings.proofs.Corners.{p7}
@@ -45,7 +45,7 @@ module _ (M R C : ℕ) where
   unfolding terms_of l1_of l2_of gamma_of root_of root_bits last reaches count maximum_of of_bits to_bits sub mul div of_int
   lambda-two = refl
 
-  accepted : leb M 1000 ≡ true → (room : ℕ) → need_of 2 1 asked ≤ room → limits_of 2 1 2 2 1 asked room ≡ Fine
+  accepted : leb M 1000 ≡ true → (room : ℕ) → need_of 2 1 asked ≤ room → limits_of 2 1 2 2 1 asked room ≡ Ok tt
   unfolding limits_of allowed_of range_of panels_of of_bits le
   accepted q room h = rw (q, le-leb _ _ h) refl
 

@@ -1,8 +1,7 @@
 -- 01's corners P1 to P9: one table, and what each of its rows says. Numbers that are fractions stand as bit patterns. Definitions only.
-use Rattle.std.specs.Prelude.{ℕ, ◌*◌, ◌≤◌, ◌≡◌, false, List, [], ◌∷◌, map, length, Float}
+use Rattle.std.specs.Prelude.{ℕ, ◌*◌, ◌≤◌, ◌≡◌, false, List, [], ◌∷◌, map, length, Float, Ok}
 use Rattle.numbers.specs.Ops.{f64}
 use Rattle.numbers.specs.Root.{root_of}
-use Rattle.refusal.specs.declared.Checked.TheVariants.{Fine}
 use Rattle.settings.specs.declared.Settings.{Settings}
 use Rattle.settings.specs.Settings.{gamma_of, terms_of}
 use Rattle.layout.specs.Need.{sizes_of, need_of}
@@ -13,7 +12,6 @@ use Rattle.ending.specs.End.{gone}
 use Rattle.elastic_net.specs.ElasticNet.{Said, limit, refused, Outcome}
 use Rattle.smartcore.specs.ElasticNet.{fit as fit_r}
 use Rattle.promises.specs.Outcome.{outcome_of}
-use Rattle.sheet_header.specs.declared.Read.TheVariants.{Sheet}
 use Rattle.sheet.specs.Sheet.{outcome, sheet_of}
 
 -- what a fit without flags is asked
@@ -76,8 +74,8 @@ end_of n p st a e = record {
 -- accepted in any scratch that is large enough, and the end's whole outcome
 pub record Fits (n p : ℕ) (x y : List Float) (st : Settings) (a : Ends) : Type 0 where
   pub lambda : (terms_of st n).lambda ≡ f64 a.lambda
-  pub limits : (room : ℕ) → need_of n p st ≤ room → limits_of n p (length x) (length y) p st room ≡ Fine
-  pub values : start_values x y n p st.normalise ≡ Fine
+  pub limits : (room : ℕ) → need_of n p st ≤ room → limits_of n p (length x) (length y) p st room ≡ Ok tt
+  pub values : start_values x y n p st.normalise ≡ Ok tt
   pub ends : (e : List Float) → outcome_of (sizes_of n p st) e (fit_r n p x y st) ≡ end_of n p st a e
 
 abbrev pub FitHolds : Input → Ends → Type 0
@@ -88,7 +86,7 @@ abbrev pub SheetHolds : List ℕ → Input → Type 0
 SheetHolds b i =
     (R C : ℕ) (x y : List Float) → length x ≡ i.n * i.p → length y ≡ i.n
     → sheet_of b R C x y
-    ≡ outcome (Sheet (record { n = i.n; p = i.p; settings = settings_of i R C })) (floats i.matrix) (floats i.targets)
+    ≡ outcome (Ok (record { n = i.n; p = i.p; settings = settings_of i R C })) (floats i.matrix) (floats i.targets)
 
 abbrev pub Holds : Row → Type 0
 Holds (root a b) = root_of (f64 a) ≡ f64 b

@@ -1,13 +1,11 @@
 -- The statistics of the columns, the test for a constant one, and the centred targets: elastic_net.rs, and the optimiser's first line. Definitions only.
-use Rattle.std.specs.Prelude.{Bool, true, false, cond, List, ◌++◌, ◌≡◌, ℕ, zero, suc, ◌+◌, ◌*◌, ◌≤◌, length, Float}
+use Rattle.std.specs.Prelude.{Bool, true, false, cond, List, ◌++◌, ◌≡◌, ℕ, zero, suc, ◌+◌, ◌*◌, ◌≤◌, length, Float, Option, None, Some}
 use Rattle.std.specs.Float.Ieee.{lt}
 use Rattle.numbers.specs.Ops.{◌⊖◌, magnitude_of}
 use Rattle.numbers.specs.Constants.{one, epsilon}
 use Rattle.arrays.specs.Part.{part, tab}
 use Rattle.arrays.specs.Sums.{plus0, mean_of}
 use Rattle.arrays.specs.Vectors.{map_of, fill_of}
-use Rattle.arrays.specs.declared.scan.Found.{Found}
-use Rattle.arrays.specs.declared.scan.Found.TheVariants.{Clean, At}
 use Rattle.column_moments.specs.Stats.{column_mean_of, deviation_of}
 use Rattle.layout.specs.declared.Sizes.{Sizes}
 use Rattle.layout.specs.declared.Places.{Places}
@@ -19,14 +17,14 @@ unfoldable pub is_constant : List Float → ℕ → ℕ → ℕ → Bool
 is_constant m n p j = lt (magnitude_of (deviation_of m n p j ⊖ plus0)) epsilon
 
 -- the lowest constant column, from j on, `left` columns
-unfoldable pub constant_from : List Float → ℕ → ℕ → ℕ → ℕ → Found
-constant_from m n p zero j = Clean
+unfoldable pub constant_from : List Float → ℕ → ℕ → ℕ → ℕ → Option ℕ
+constant_from m n p zero j = None
 constant_from m n p (suc left) j = elim (is_constant m n p j) [
-  | true ↦ At j
+  | true ↦ Some j
   | false ↦ constant_from m n p left (j + 1)
 ]
 
-abbrev pub constant_of : List Float → ℕ → ℕ → Found
+abbrev pub constant_of : List Float → ℕ → ℕ → Option ℕ
 constant_of m n p = constant_from m n p p 0
 
 -- means and deviations; unnormalised 0 and 1

@@ -17,13 +17,10 @@ pub fn augment(m: &[f64], sh: Sizes, normalise: bool, t: Terms, s: &mut [f64], l
     requires stored_value { sh.stored ≡ sh.n + sh.p }
     ensures { Makes sh (design_store sh normalise t m.now) s.old s.new }
 {
-    let ce = l.centre;
-    let sc = l.scale;
-    let out = l.design;
     let n = sh.n;
     let p = sh.p;
-    rows(m, n, p, normalise, t.gamma, s, ce, sc, out);
-    padding(s, out + n * p, p, t.padding);
+    rows(m, n, p, normalise, t.gamma, s, l.centre, l.scale, l.design);
+    padding(s, l.design + n * p, p, t.padding);
 }
 
 fn rows(
@@ -66,9 +63,9 @@ fn row(
 {
     if normalise {
         normal_row(m, at, gamma, s, ce, sc, out, p);
-        return;
+    } else {
+        raw_row(m, at, gamma, s, out, p);
     }
-    raw_row(m, at, gamma, s, out, p);
 }
 
 fn normal_row(

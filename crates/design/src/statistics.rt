@@ -3,7 +3,6 @@ ghost use Rattle.std.specs.Prelude.{◌≡◌, ◌*◌, ◌≤◌, length};
 ghost use Rattle.layout.specs.Slots.{Makes};
 ghost use Rattle.design.specs.Statistics.{constant_of, statistics_store, targets_store, Given, Targets};
 
-use arrays::scan::Found;
 use arrays::sums::mean;
 use arrays::vectors::{copy_from, fill, sub_scalar};
 use column_moments::moments;
@@ -12,7 +11,7 @@ use numbers::bits::magnitude;
 
 // The lowest constant column, that is, one whose deviation is below epsilon; a NaN is not. It writes nothing that is lent, so that refusal 6 is found before
 // the first word is written.
-pub fn first_constant(m: &[f64], n: usize, p: usize) -> Found
+pub fn first_constant(m: &[f64], n: usize, p: usize) -> Option<usize>
     requires p_in_bounds { n * p ≤ length m.now }
     requires n_bound { n ≤ 4096 }
     requires p_bound { p ≤ 64 }
@@ -22,10 +21,10 @@ pub fn first_constant(m: &[f64], n: usize, p: usize) -> Found
     moments(m, n, p, &mut t, 0, 64);
     for j in 0..p {
         if magnitude(t[64 + j] - 0.0) < 2.220446049250313e-16 {
-            return Found::At(j);
+            return Some(j);
         }
     }
-    Found::Clean
+    None
 }
 
 // The columns' means and deviations, into their slots; where the fit does not normalise 0 and 1, with which normalising changes nothing.
@@ -33,16 +32,12 @@ pub fn statistics(m: &[f64], sh: Sizes, normalise: bool, s: &mut [f64], l: Place
     requires { Given sh l m.now s.old }
     ensures { Makes sh (statistics_store sh normalise m.now) s.old s.new }
 {
-    let ce = l.centre;
-    let sc = l.scale;
-    let n = sh.n;
-    let p = sh.p;
     if normalise {
-        moments(m, n, p, s, ce, sc);
-        return;
+        moments(m, sh.n, sh.p, s, l.centre, l.scale);
+    } else {
+        fill(s, l.centre, sh.p, 0.0);
+        fill(s, l.scale, sh.p, 1.0);
     }
-    fill(s, ce, p, 0.0);
-    fill(s, sc, p, 1.0);
 }
 
 // The targets with p zeros, less the mean over all of them.

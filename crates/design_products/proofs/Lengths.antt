@@ -12,7 +12,9 @@ use Rattle.matrices.proofs.Lengths.{length-rows, length-columns}
 use Rattle.settings.specs.declared.Terms.{Terms}
 use Rattle.layout.specs.declared.Sizes.{Sizes}
 use Rattle.layout.specs.declared.Places.{Places}
-use Rattle.layout.specs.Slots.{Store}
+use Rattle.layout.specs.declared.fit.Fit.{Fit}
+use Rattle.layout.specs.Slots.{Store, HasRoom}
+use Rattle.layout.proofs.Fits.{room_of}
 use Rattle.lazy_normalization.specs.Lazy.{lazy_rows, lazy_columns}
 use Rattle.design_products.specs.Mode.{matvec_of, transposed_of, Held}
 
@@ -36,12 +38,6 @@ length-transposed sh t m v xs = go sh.lazy refl where
   go true z = rw (z, length-tab)
   go false z = rw (z, length-columns)
 
-pub held_on : {sh : Sizes} {l : Places} {m s s' : List Float} → Held sh l m s → length s' ≡ length s → Held sh l m s'
-held_on h e = record {
-  room = record { room = omega arith; laid = h.room.laid };
-  matrix = h.matrix;
-  rows = h.rows;
-  columns = h.columns;
-  all = h.all;
-  stored = h.stored;
-}
+-- a fit is right for every memory that is long enough
+pub held_of : (f : Fit) {s : List Float} → HasRoom f.sizes s → Held f.sizes f.places f.matrix.now s
+held_of f long = record { room = room_of f long; matrix = f.lent; rows = f.rows; columns = f.small.columns; all = f.all; stored = f.stored }

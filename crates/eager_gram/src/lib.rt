@@ -30,12 +30,13 @@ fn sums(s: &mut [f64], g: usize, p: usize, at: usize, n: usize)
     requires { Added s.old g p at n }
     ensures { s.new ≡ mat s.old g p low (carry s.old g p at at p n) p }
 {
-    let mut i = 0usize;
-    while 4 <= n - i {
-        four_rows(s, g, p, at + i * p);
-        i += 4;
+    let fours = n / 4;
+    for i in 0..fours {
+        four_rows(s, g, p, at + 4 * i * p);
     }
-    few_rows(s, g, p, at + i * p, n - i);
+    for i in 4 * fours..n {
+        one_row(s, g, p, at + i * p);
+    }
 }
 
 // The same of four rows. Each sum is read and written once for four products.
@@ -45,16 +46,6 @@ fn four_rows(s: &mut [f64], g: usize, p: usize, at: usize)
 {
     for r in 0..p {
         add_four(s, g + r * p, at + r, p, at, p, r + 1);
-    }
-}
-
-// The same of the rows that are left, one at a time.
-fn few_rows(s: &mut [f64], g: usize, p: usize, at: usize, left: usize)
-    requires { Added s.old g p at left }
-    ensures { s.new ≡ mat s.old g p low (carry s.old g p at at p left) p }
-{
-    for i in 0..left {
-        one_row(s, g, p, at + i * p);
     }
 }
 

@@ -1,4 +1,5 @@
 -- What a refusal, a pause and an end show: a lemma for each return. Assumes nothing.
+use Rattle.std.specs.Prelude.{Result, ⊤, Ok, Err}
 use mathlib.Core.Path.{◌≡◌, refl, sym, ◌∙◌}
 use mathlib.Core.Bool.{Bool, true, false}
 use mathlib.Core.List.{List}
@@ -16,8 +17,6 @@ use Rattle.refusal.specs.declared.Refusal.TheVariants.{Record}
 use Rattle.refusal.specs.declared.Way.{Way}
 use Rattle.refusal.specs.declared.Way.TheVariants.{Limit}
 use Rattle.refusal.specs.declared.Failure.{Failure}
-use Rattle.refusal.specs.declared.Checked.{Checked}
-use Rattle.refusal.specs.declared.Checked.TheVariants.{Fine, Bad}
 use Rattle.refusal.specs.Refusal.{refused_by}
 use Rattle.settings.specs.declared.Settings.{Settings}
 use Rattle.settings.specs.declared.Terms.{Terms}
@@ -49,7 +48,6 @@ use Rattle.beginning.specs.Start.{start_store}
 use Rattle.ending.specs.End.{weights_of, intercept_of, gone}
 use Rattle.elastic_net.specs.declared.Answer.TheVariants.{Pending as PendingA, Done as DoneA, Refused as RefusedA}
 use Rattle.elastic_net.specs.declared.Resumed.{Resumed}
-use Rattle.elastic_net.specs.declared.Started.TheVariants.{Ready as ReadyS, Refused as RefusedS}
 use Rattle.elastic_net.specs.ElasticNet.{Outcome, outcome, start_outcome, end_outcome, ending, shown, resume_of, start_of}
 
 -- ---- the steps of a call
@@ -126,17 +124,17 @@ module _ (n p : ℕ) (x y : List Float) (st : Settings) (a : Paused) (s w : List
 
 -- ---- a resuming call, k being what 1 to 4 say
 
-module _ (n p : ℕ) (x y : List Float) (st : Settings) (a : Paused) (s w : List Float) (b : ℕ) {k : Checked}
+module _ (n p : ℕ) (x y : List Float) (st : Settings) (a : Paused) (s w : List Float) (b : ℕ) {k : Result ⊤ Refusal}
     (q : k ≡ limits_of n p (length x) (length y) (length w) st (length s)) where
-  pub refused : {r : Refusal} → k ≡ Bad r → outcome (record { answer = RefusedA r; paused = a }) w s ≡ resume_of n p x y st a s w b
+  pub refused : {r : Refusal} → k ≡ Err r → outcome (record { answer = RefusedA r; paused = a }) w s ≡ resume_of n p x y st a s w b
   unfolding resume_of
   refused e = rw (sym q ∙ e)
 
-  pub refused-record : k ≡ Fine → possible_of st.max_iter a ≡ false → outcome (record { answer = RefusedA Record; paused = a }) w s ≡ resume_of n p x y st a s w b
+  pub refused-record : k ≡ Ok tt → possible_of st.max_iter a ≡ false → outcome (record { answer = RefusedA Record; paused = a }) w s ≡ resume_of n p x y st a s w b
   unfolding resume_of
   refused-record e h = rw (sym q ∙ e, h)
 
-  pub let_through : (u : Resumed) {w' s' : List Float} → k ≡ Fine → possible_of st.max_iter a ≡ true
+  pub let_through : (u : Resumed) {w' s' : List Float} → k ≡ Ok tt → possible_of st.max_iter a ≡ true
       → outcome u w' s' ≡ carried n p x y st a s w b
       → outcome u w' s' ≡ resume_of n p x y st a s w b
   unfolding resume_of
@@ -144,19 +142,11 @@ module _ (n p : ℕ) (x y : List Float) (st : Settings) (a : Paused) (s w : List
 
 -- ---- a start
 
-module _ (n p : ℕ) (x y : List Float) (st : Settings) (s : List Float) {k : Checked}
+module _ (n p : ℕ) (x y : List Float) (st : Settings) (s : List Float) {k : Result ⊤ Refusal}
     (q : k ≡ limits_of n p (length x) (length y) p st (length s)) where
-  pub start-refused : {r : Refusal} → k ≡ Bad r → start_outcome (RefusedS r) s ≡ start_of n p x y st s
-  unfolding start_of
-  start-refused e = rw (sym q ∙ e)
-
-  module _ (e : k ≡ Fine) {j : Checked} (t : j ≡ start_values x y n p st.normalise) where
-    pub values-refused : {r : Refusal} → j ≡ Bad r → start_outcome (RefusedS r) s ≡ start_of n p x y st s
-    unfolding start_of
-    values-refused g = rw (sym q ∙ e, sym t ∙ g)
-
-    pub starts : {sh : Sizes} {tm : Terms} {m : List Float} {f : Scalars} {u : Paused} → j ≡ Fine → sh ≡ sizes_of n p st → tm ≡ terms_of st n
+  module _ (e : k ≡ Ok tt) {j : Result ⊤ Refusal} (t : j ≡ start_values x y n p st.normalise) where
+    pub starts : {sh : Sizes} {tm : Terms} {m : List Float} {f : Scalars} {u : Paused} → j ≡ Ok tt → sh ≡ sizes_of n p st → tm ≡ terms_of st n
         → Has sh (rest sh s) (start_store sh st.normalise tm x y) m → f ≡ fresh p tm.lambda → u ≡ paused_at Opening 0 none f
-        → start_outcome (ReadyS u) m ≡ start_of n p x y st s
+        → start_outcome (Ok u) m ≡ start_of n p x y st s
     unfolding start_of
     starts {sh} g qs qt h qf qu = rw (sym q ∙ e, sym t ∙ g, ← qs, ← qt, qu, qf, flat-of sh h)

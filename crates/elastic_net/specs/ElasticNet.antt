@@ -1,13 +1,12 @@
 -- Starting and resuming: what each call answers and leaves, for every input and every content of the lent memory. Definitions only.
-use Rattle.std.specs.Prelude.{Bool, cond, List, ℕ, length, Float}
+use Rattle.refusal.specs.declared.Refusal.{Refusal}
+use Rattle.std.specs.Prelude.{Bool, cond, List, ℕ, length, Float, Result, ⊤, Ok, Err}
 use Rattle.arrays.specs.Sums.{plus0}
 use Rattle.arrays.specs.Vectors.{fill_of}
 use Rattle.refusal.specs.declared.Refusal.TheVariants.{Record}
 use Rattle.refusal.specs.declared.Way.{Way}
 use Rattle.refusal.specs.declared.Way.TheVariants.{Converged, Limit}
 use Rattle.refusal.specs.declared.Failure.{Failure}
-use Rattle.refusal.specs.declared.Checked.{Checked}
-use Rattle.refusal.specs.declared.Checked.TheVariants.{Fine, Bad}
 use Rattle.refusal.specs.Refusal.{number_of, place_of, refused_by}
 use Rattle.settings.specs.declared.Settings.{Settings}
 use Rattle.settings.specs.Settings.{terms_of}
@@ -33,8 +32,6 @@ use Rattle.ending.specs.End.{weights_of, intercept_of, gone}
 use Rattle.elastic_net.specs.declared.Answer.{Answer}
 use Rattle.elastic_net.specs.declared.Answer.TheVariants.{Pending as PendingA, Done as DoneA, Refused as RefusedA}
 use Rattle.elastic_net.specs.declared.Resumed.{Resumed}
-use Rattle.elastic_net.specs.declared.Started.{Started}
-use Rattle.elastic_net.specs.declared.Started.TheVariants.{Ready as ReadyS, Refused as RefusedS}
 
 -- ---- what an answer says, in 01's words: each case of the enum with its number, place and values
 
@@ -95,9 +92,9 @@ module _ (sh : Sizes) (normalise : Bool) (gamma : Float) (ys : List Float) where
   shown e w (going x) = record { answer = pending; paused = paused_of x; weights = w; scratch = flatly sh (store_of (data_of x)) e }
 
 -- a refusal changes nothing
-abbrev pub by_check : Checked → Paused → List Float → List Float → Outcome → Outcome
-by_check Fine a w s o = o
-by_check (Bad r) a w s o = record { answer = refused (number_of r) (place_of r); paused = a; weights = w; scratch = s }
+abbrev pub by_check : Result ⊤ Refusal → Paused → List Float → List Float → Outcome → Outcome
+by_check (Ok tt) a w s o = o
+by_check (Err r) a w s o = record { answer = refused (number_of r) (place_of r); paused = a; weights = w; scratch = s }
 
 -- n, p, matrix, targets, settings, record, scratch, weights, budget
 unfoldable pub resume_of : ℕ → ℕ → List Float → List Float → Settings → Paused → List Float → List Float → ℕ → Outcome
@@ -105,7 +102,7 @@ resume_of n p x y st a s w b =
     let sh = sizes_of n p st in
     let tm = terms_of st n in
     by_check (limits_of n p (length x) (length y) (length w) st (length s)) a w s
-    (by_check (cond (possible_of st.max_iter a) Fine (Bad Record)) a w s
+    (by_check (cond (possible_of st.max_iter a) (Ok tt) (Err Record)) a w s
     (shown sh st.normalise tm.gamma y (rest sh s) w (call (parts sh tm st.tol x) st.max_iter b (state_of a (vars sh s)))))
 
 -- ---- a start
@@ -114,21 +111,21 @@ pub data SaidS : Type 0 where
   ready : Paused → SaidS
   refused_s : ℕ → ℕ → SaidS
 
-abbrev pub said_s : Started → SaidS
-said_s (ReadyS a) = ready a
-said_s (RefusedS r) = refused_s (number_of r) (place_of r)
+abbrev pub said_s : Result Paused Refusal → SaidS
+said_s (Ok a) = ready a
+said_s (Err r) = refused_s (number_of r) (place_of r)
 
 -- what a start answers, and what it leaves in the scratch
 pub record StartOutcome : Type 0 where
   pub answer : SaidS
   pub scratch : List Float
 
-abbrev pub start_outcome : Started → List Float → StartOutcome
+abbrev pub start_outcome : Result Paused Refusal → List Float → StartOutcome
 start_outcome r s = record { answer = said_s r; scratch = s }
 
-abbrev pub by_start_check : Checked → List Float → StartOutcome → StartOutcome
-by_start_check Fine s o = o
-by_start_check (Bad r) s o = record { answer = refused_s (number_of r) (place_of r); scratch = s }
+abbrev pub by_start_check : Result ⊤ Refusal → List Float → StartOutcome → StartOutcome
+by_start_check (Ok tt) s o = o
+by_start_check (Err r) s o = record { answer = refused_s (number_of r) (place_of r); scratch = s }
 
 -- n, p, matrix, targets, settings, scratch: 1 to 4, with p for the number of weights, then 5 and 6, each of which changes nothing; else a fresh fit
 unfoldable pub start_of : ℕ → ℕ → List Float → List Float → Settings → List Float → StartOutcome

@@ -4,13 +4,11 @@
 ghost use Rattle.std.specs.Prelude.{◌≡◌, true, ◌≤◌, length};
 ghost use Rattle.pause.specs.Paused.{call};
 ghost use Rattle.settings.specs.Settings.{terms_of};
-ghost use Rattle.layout.specs.Slots.{Room, vars, rest};
-ghost use Rattle.layout.specs.Need.{sizes_of, Small};
-ghost use Rattle.design_products.specs.Mode.{Held};
+ghost use Rattle.layout.specs.Slots.{HasRoom, vars, rest};
+ghost use Rattle.layout.specs.Need.{sizes_of};
 ghost use Rattle.lasso_optimizer.specs.Fit.{parts};
 ghost use Rattle.records.specs.Record.{state_of};
 ghost use Rattle.stages.specs.Stage.{Did};
-ghost use Rattle.ending.specs.End.{Ends};
 ghost use Rattle.checks.specs.Checks.{Accepted};
 ghost use Rattle.records.specs.Records.{possible_of};
 ghost use Rattle.elastic_net.specs.ElasticNet.{outcome, start_outcome, end_outcome, shown, resume_of, start_of};
@@ -19,10 +17,10 @@ use arrays::vectors::{fill, sweep};
 use beginning::{begin, fresh_scalars};
 use checks::{limits, start_values};
 use ending::{solution, wipe};
-use layout::{Places, Sizes, need, place, sizes_of};
+use layout::fit::Fit;
 use records::{Counts, Paused, clean, ended, first, possible, spent};
-use refusal::{Checked, Refusal, Way, refused_by};
-use settings::{Settings, Terms, terms_of};
+use refusal::{Refusal, Way};
+use settings::Settings;
 use stages::{How, Stepped};
 use steps::run_steps;
 
@@ -40,78 +38,52 @@ pub struct Resumed {
     pub paused: Paused,
 }
 
-#[derive(Clone, Copy)]
-pub enum Started {
-    Ready(Paused),
-    Refused(Refusal),
-}
-
 // Up to `budget` steps. A fit that may open no round ends at the limit before its first step, whatever the budget.
-fn go(
-    m: &[f64],
-    sh: Sizes,
-    tm: Terms,
-    tol: f64,
-    limit: u64,
-    s: &mut [f64],
-    l: Places,
-    rec: Paused,
-    budget: u64,
-) -> Stepped
-    requires held { Held sh l m.now s.old }
-    requires limit_bound { limit ≤ 1000 }
-    requires rec_value { possible_of limit rec ≡ true }
-    ensures { Did sh (rest sh s.old) (call (parts sh tm tol m.now) limit budget
-        (state_of rec (vars sh s.old))) result s.new }
+fn go(fit: &Fit, s: &mut [f64], rec: Paused, budget: u64) -> Stepped
+    requires room { HasRoom fit.now.sizes s.old }
+    requires rec_value { possible_of fit.now.limit rec ≡ true }
+    ensures { let f = fit.now in
+        Did f.sizes (rest f.sizes s.old) (call (parts f.sizes f.terms f.tol f.matrix.now) f.limit budget
+        (state_of rec (vars f.sizes s.old))) result s.new }
 {
-    if spent(limit, rec) {
-        let c = rec.counts;
-        return Stepped::Over(How::Done(Way::Limit), c);
+    if spent(fit.limit, rec) {
+        return Stepped::Over(How::Done(Way::Limit), rec.counts);
     }
-    run_steps(m, sh, tm, tol, limit, s, l, rec, budget)
+    run_steps(fit, s, rec, budget)
 }
 
 // Each NaN in the vectors that steps write gets its one pattern; where no step was taken none is touched.
-fn tidy(s: &mut [f64], sh: Sizes, l: Places, budget: u64)
-    requires { Room sh l s.old }
+fn tidy(fit: &Fit, s: &mut [f64], budget: u64)
+    requires { HasRoom fit.now.sizes s.old }
     ensures { s.new ≡ s.old }
 {
     if budget == 0 {
         return;
     }
-    sweep(s, 0, l.centre);
-    sweep(s, l.z, 3 * sh.k);
+    sweep(s, 0, fit.places.centre);
+    sweep(s, fit.places.z, 3 * fit.sizes.k);
 }
 
 // The end of a fit: the weights, +0 in the needed scratch, and the answer. The weights of a fit that failed are +0.
-fn finish(
-    s: &mut [f64],
-    sh: Sizes,
-    l: Places,
-    normalise: bool,
-    gamma: f64,
-    y: &[f64],
-    w: &mut [f64],
-    how: How,
-    c: Counts,
-) -> Resumed
-    requires ends { Ends sh l s.old y.now w.old }
-    requires small { Small sh }
-    ensures { outcome result w.new s.new
-        ≡ end_outcome sh normalise gamma y.now (rest sh s.old) how c (vars sh s.old) }
+fn finish(fit: &Fit, s: &mut [f64], y: &[f64], w: &mut [f64], how: How, c: Counts) -> Resumed
+    requires room { HasRoom fit.now.sizes s.old }
+    requires targets { length y.now ≡ fit.now.sizes.n }
+    requires weights { length w.old ≡ fit.now.sizes.p }
+    ensures { let f = fit.now in outcome result w.new s.new
+        ≡ end_outcome f.sizes f.normalise f.terms.gamma y.now (rest f.sizes s.old) how c (vars f.sizes s.old) }
 {
     let e = ended(c);
-    let b = solution(s, sh, l, normalise, gamma, y, w);
-    wipe(s, sh, need(sh));
+    let b = solution(fit, s, y, w);
+    wipe(fit, s);
     match how {
         How::Done(way) => Resumed {
             answer: Answer::Done(b, way, c),
             paused: e,
         },
         How::Failed(f) => {
-            fill(w, 0, sh.p, 0.0);
+            fill(w, 0, fit.sizes.p, 0.0);
             Resumed {
-                answer: Answer::Refused(refused_by(f)),
+                answer: Answer::Refused(Refusal::from(f)),
                 paused: e,
             }
         }
@@ -137,19 +109,17 @@ fn accepted(
         (call (parts (sizes_of n p st) (terms_of st n) st.tol x.now) st.max_iter budget
         (state_of rec (vars (sizes_of n p st) s.old))) }
 {
-    let sh = sizes_of(n, p, st);
-    let l = place(sh);
-    let tm = terms_of(st, n);
-    match go(x, sh, tm, st.tol, st.max_iter, s, l, rec, budget) {
+    let fit = Fit::new(x, n, p, st);
+    match go(&fit, s, rec, budget) {
         Stepped::Going(next) => {
-            tidy(s, sh, l, budget);
+            tidy(&fit, s, budget);
             let r = clean(next);
             Resumed {
                 answer: Answer::Pending,
                 paused: r,
             }
         }
-        Stepped::Over(how, c) => finish(s, sh, l, st.normalise, tm.gamma, y, w, how, c),
+        Stepped::Over(how, c) => finish(&fit, s, y, w, how, c),
     }
 }
 
@@ -169,8 +139,7 @@ pub fn resume(
     ensures { outcome result w.new s.new
         ≡ resume_of n p x.now y.now st rec s.old w.old budget }
 {
-    let c = limits(n, p, x.len(), y.len(), w.len(), st, s.len());
-    if let Checked::Bad(r) = c {
+    if let Err(r) = limits(n, p, x.len(), y.len(), w.len(), st, s.len()) {
         return Resumed {
             answer: Answer::Refused(r),
             paused: rec,
@@ -187,21 +156,20 @@ pub fn resume(
 
 // Checks the input, writes the needed scratch and answers the first record. It takes no step, and where it refuses it writes nothing. Total, for all input:
 // answer and scratch are `start_of`.
-pub fn start(n: usize, p: usize, x: &[f64], y: &[f64], st: Settings, s: &mut [f64]) -> Started
+#[tactic(auto, unfolding(crate::specs::ElasticNet::start_of))]
+pub fn start(
+    n: usize,
+    p: usize,
+    x: &[f64],
+    y: &[f64],
+    st: Settings,
+    s: &mut [f64],
+) -> Result<Paused, Refusal>
     ensures { start_outcome result s.new ≡ start_of n p x.now y.now st s.old }
 {
-    let c = limits(n, p, x.len(), y.len(), p, st, s.len());
-    if let Checked::Bad(r) = c {
-        return Started::Refused(r);
-    }
-    let c = start_values(x, y, n, p, st.normalise);
-    if let Checked::Bad(r) = c {
-        return Started::Refused(r);
-    }
-    let sh = sizes_of(n, p, st);
-    let l = place(sh);
-    let tm = terms_of(st, n);
-    begin(x, y, sh, st.normalise, tm, s, l, need(sh));
-    let a = fresh_scalars(p, tm.lambda);
-    Started::Ready(first(a))
+    limits(n, p, x.len(), y.len(), p, st, s.len())?;
+    start_values(x, y, n, p, st.normalise)?;
+    let fit = Fit::new(x, n, p, st);
+    begin(&fit, y, s);
+    Ok(first(fresh_scalars(p, fit.terms.lambda)))
 }

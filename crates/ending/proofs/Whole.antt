@@ -16,8 +16,10 @@ use Rattle.arrays.specs.Vectors.{map_of, fill_of}
 use Rattle.arrays.proofs.Lengths.{length-fill}
 use Rattle.arrays.proofs.Turns.{Made, kept}
 use Rattle.layout.specs.declared.Sizes.{Sizes}
+use Rattle.layout.specs.declared.fit.Fit.{Fit}
+use Rattle.layout.proofs.Fits.{room_of}
 use Rattle.layout.specs.declared.Places.{Places}
-use Rattle.layout.specs.Slots.{vars, rest, words}
+use Rattle.layout.specs.Slots.{HasRoom, vars, rest, words}
 use Rattle.layout.specs.Slots.{Slot.W}
 use Rattle.ending.specs.End.{Ends, rescaled_of, weights_of, intercept_of, gone}
 
@@ -33,6 +35,10 @@ wiped sh need s s' e h q =
     let xs = fill_of plus0 need in
     let k : 0 + length xs ≡ need = omega (arith, length-fill plus0 need) in
     q ∙ sets-eq xs s 0 (omega arith) ∙ ap (λ (n : ℕ). xs ++ drop n s) k ∙ rw e
+
+-- what a fit has and its end asks
+pub ends : (f : Fit) {s ys ws : List Float} → HasRoom f.sizes s → length ys ≡ f.sizes.n → length ws ≡ f.sizes.p → Ends f.sizes f.places s ys ws
+ends f long targets weights = record { room = room_of f long; rows = f.rows; targets = targets; weights = weights }
 
 -- the answers: w₁ the copied weights, w₂ the rescaled, w₃ the swept
 module _ (sh : Sizes) (l : Places) {s ys w₀ : List Float} (h : Ends sh l s ys w₀) where

@@ -5,6 +5,7 @@ use Prim.Native.Nat.{ℕ, ◌+◌, ◌*◌, ◌≤◌, ◌<◌}
 use native.Mathlib.Nat.{mul-le-mul}
 use native.Mathlib.Omega.{arith}
 use lib.Dec.{lit≤}
+use Rattle.std.proofs.lemmas.Bool.{true≢false, false≢true}
 use Rattle.settings.specs.declared.Settings.{Settings}
 use Rattle.settings.specs.Settings.{Panels}
 use Rattle.layout.specs.declared.Sizes.{Sizes}
@@ -31,6 +32,32 @@ small-sizes n p st hn hp g = go st.lazy refl where
       let h = g q in
       rw q (record { columns = hp; design = omega arith; stored = lit≤ tt; panel-rows = h.rows-most; panel-columns = h.columns-most })
   go false q = rw q (record { columns = hp; design = omega arith; stored = omega arith; panel-rows = lit≤ tt; panel-columns = lit≤ tt })
+
+-- the sizes of a fit; a stored design has all its rows
+pub record SizesAre (n p : ℕ) (sh : Sizes) : Type 0 where
+  pub rows : sh.n ≡ n
+  pub columns : sh.p ≡ p
+  pub all : sh.k ≡ n + p
+  pub stored : sh.lazy ≡ false → sh.stored ≡ sh.k
+
+pub sizes-known : (n p : ℕ) (st : Settings) → SizesAre n p (sizes_of n p st)
+unfolding sizes_of
+sizes-known n p st = go st.lazy refl where
+  go : (b : Bool) → st.lazy ≡ b → SizesAre n p (sizes_of n p st)
+  go true q = rw q (record { rows = refl; columns = refl; all = refl; stored = λ h. absurd (true≢false h) })
+  go false q = rw q (record { rows = refl; columns = refl; all = refl; stored = λ h. refl })
+
+-- the panels of a lazy fit have rows and columns
+pub record Panelled (sh : Sizes) : Type 0 where
+  pub rows : sh.lazy ≡ true → 1 ≤ sh.pr
+  pub columns : sh.lazy ≡ true → 1 ≤ sh.pc
+
+pub panelled : (n p : ℕ) (st : Settings) → (st.lazy ≡ true → Panels st) → Panelled (sizes_of n p st)
+unfolding sizes_of
+panelled n p st g = go st.lazy refl where
+  go : (b : Bool) → st.lazy ≡ b → Panelled (sizes_of n p st)
+  go true q = rw q (record { rows = λ z. (g q).rows-least; columns = λ z. (g q).columns-least })
+  go false q = rw q (record { rows = λ z. absurd (false≢true z); columns = λ z. absurd (false≢true z) })
 
 -- their products, each of which omega takes as one unknown
 pub record Products (sh : Sizes) : Type 0 where

@@ -203,6 +203,10 @@ pub record Laid (sh : Sizes) (l : Places) : Type 0 where
   pub at-newz : l.newz ≡ off sh NEWZ
   pub at-design : l.design ≡ off sh DESIGN
 
+-- a memory that is long enough
+abbrev pub HasRoom : Sizes → List Float → Type 0
+HasRoom sh m = 40 * sh.p + 2 * (sh.pr * sh.pc) + sh.pc * sh.pc + sh.p * sh.p + 4 * sh.k + sh.stored * sh.p ≤ length m
+
 -- sizes and places that are right for a memory
 pub record Room (sh : Sizes) (l : Places) (m : List Float) : Type 0 where
   pub room : 40 * sh.p + 2 * (sh.pr * sh.pc) + sh.pc * sh.pc + sh.p * sh.p + 4 * sh.k + sh.stored * sh.p ≤ length m

@@ -5,6 +5,8 @@ ghost use Rattle.std.specs.Prelude.{◌≡◌, ◌≤◌};
 ghost use Rattle.layout.specs.Slots.{Laid, words};
 ghost use Rattle.layout.specs.Need.{sizes_of, Small};
 
+pub mod fit;
+
 use settings::Settings;
 
 // k is n + p. `stored` is the number of the design's rows in the scratch: k, or none of a lazy design; pr and pc are the panels' of a lazy one, and else 0.

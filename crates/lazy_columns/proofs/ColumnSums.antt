@@ -21,13 +21,13 @@ use Rattle.lazy_normalization.proofs.Entries.{design, Unwritten, while-made}
 use Rattle.lazy_columns.specs.ColumnSums.{RowAdds, FourAdd}
 use Rattle.lazy_columns.proofs.There.{each-there}
 
--- sum j of those of t at `out` with the first i rows of column j times the vector at v of s
-abbrev pub summed : List Float → List Float → ℕ → Places → List Float → ℕ → ℕ → ℕ → ℕ → ℕ → Float
-summed m s p l t out v nv i j = products (part t out p ! j) (λ k. design m s p l k j) (λ k. part s v nv ! k) i
+-- the first i rows of column j times the vector at v of s, added to b j
+abbrev pub summed : List Float → List Float → ℕ → Places → (ℕ → Float) → ℕ → ℕ → ℕ → ℕ → Float
+summed m s p l b v nv i j = products (b j) (λ k. design m s p l k j) (λ k. part s v nv ! k) i
 
--- the sums lie in s too
-abbrev pub column_sum : List Float → List Float → ℕ → Places → ℕ → ℕ → ℕ → ℕ → ℕ → Float
-column_sum m s p l out v nv i j = summed m s p l s out v nv i j
+-- added to +0
+abbrev pub column_sum : List Float → List Float → ℕ → Places → ℕ → ℕ → ℕ → ℕ → Float
+column_sum m s p l v nv i j = summed m s p l (λ _. plus0) v nv i j
 
 -- the numbers of column j, beside the sums, are as they were
 column-kept : {s₀ s : List Float} {out p : ℕ} {f : ℕ → Float} {j : ℕ} → Made s₀ out p f s j → j < p → (l : Places) → (out < l.recip + p → out + p ≤ l.centre)
@@ -93,51 +93,47 @@ pub sums_none : (t : List Float) (out p : ℕ) (f g : ℕ → ℕ → Float) →
 sums_none t out p f g room = made_of t out p _ t (sym (put_self t out _ p nan room (λ j h. fold-none _ _ _ ∙ get_or-part t out p j nan h)))
 
 -- `count` rows more: f has the vector's next elements, and what is read is as it was in s₀
-pub sums_on : (m : List Float) {s₀ s : List Float} {p : ℕ} {l : Places} {v nv : ℕ} → Unwritten s₀ s p l v nv → {t₀ t : List Float} {out : ℕ} (i count : ℕ)
-    → Made t₀ out p (summed m s₀ p l t₀ out v nv i) t p → out + p ≤ length t₀ → i + count ≤ nv → (f : ℕ → Float) → ((a : ℕ) → a < count → f a ≡ s ! (v + (i + a)))
+pub sums_on : (m : List Float) {s₀ s : List Float} {p : ℕ} {l : Places} {v nv : ℕ} → Unwritten s₀ s p l v nv → (b : ℕ → Float) {t₀ t : List Float} {out : ℕ} (i count : ℕ)
+    → Made t₀ out p (summed m s₀ p l b v nv i) t p → out + p ≤ length t₀ → i + count ≤ nv → (f : ℕ → Float) → ((a : ℕ) → a < count → f a ≡ s ! (v + (i + a)))
     → (u : List Float) → u ≡ put t out (tab (λ j. products (part t out p ! j) (λ a. design m s p l (i + a) j) f count) p)
-    → Made t₀ out p (summed m s₀ p l t₀ out v nv (i + count)) u p
-sums_on m {s₀} {s} {p} {l} {v} {nv} same {t = t} {out} i count d room h f is u e =
+    → Made t₀ out p (summed m s₀ p l b v nv (i + count)) u p
+sums_on m {s₀} {s} {p} {l} {v} {nv} same b {t = t} {out} i count d room h f is u e =
     made_again d _ u
     (e ∙ ap (put t out) (tab-ext _ _ p (λ j k. rw (written d room j k) (fold-ext _ _ _ _ count (term j)) ∙ fold_on _ _ _ i count))) where
       term : (j a : ℕ) → a < count → design m s p l (i + a) j ⊗ f a ≡ design m s₀ p l (i + a) j ⊗ part s₀ v nv ! (i + a)
       term j a g = rw (is a g, ← get_or-part s v nv (i + a) nan (omega arith), same.centres, same.scales, same.reciprocals, same.vector)
 
-module _ {m : List Float} {n p : ℕ} {s₁ : List Float} {l : Places} {v out : ℕ} (r : Reads m n p s₁ l v (n + p) out p) (i : ℕ) {s₀ s : List Float}
-    (room : out + p ≤ length s₀) (d : Made s₀ out p (column_sum m s₀ p l out v (n + p) i) s p) where
+-- +0 and no row
+pub columns-none : (m s₀ : List Float) (n p : ℕ) (l : Places) (v : ℕ) (s : List Float) (out : ℕ) → s ≡ put s₀ out (fill_of plus0 p)
+    → Made s₀ out p (column_sum m s₀ p l v (n + p) 0) s p
+unfolding fill_of
+columns-none m s₀ n p l v s out e = made_of s₀ out p _ s (e ∙ ap (put s₀ out) (tab-ext _ _ p (λ j h. sym (fold-none _ _ _))))
+
+module _ {m : List Float} {n p : ℕ} {s₀ : List Float} {l : Places} {v out : ℕ} (r : Reads m n p s₀ l v (n + p) out p) (i : ℕ) {s : List Float}
+    (d : Made s₀ out p (column_sum m s₀ p l v (n + p) i) s p) where
   -- what is read is as it was
   same : Unwritten s₀ s p l v (n + p)
   same = while-made r (omega arith) d
 
   pub columns-more : (u : List Float) → i < n → u ≡ put s out (tab (λ j. part s out p ! j ⊕ design m s p l i j ⊗ s ! (v + i)) p)
-      → Made s₀ out p (column_sum m s₀ p l out v (n + p) (i + 1)) u p
-  columns-more u h e = made_again d _ u (e ∙ ap (put s out) (tab-ext _ _ p (λ j q. fold-turn _ _ _ i _ _ (written d room j q) (term j)))) where
+      → Made s₀ out p (column_sum m s₀ p l v (n + p) (i + 1)) u p
+  columns-more u h e = made_again d _ u (e ∙ ap (put s out) (tab-ext _ _ p (λ j q. fold-turn _ _ _ i _ _ (written d r.room j q) (term j)))) where
     term : (j : ℕ) → design m s p l i j ⊗ s ! (v + i) ≡ design m s₀ p l i j ⊗ part s₀ v (n + p) ! i
     term j = rw (same.centres, same.scales, same.reciprocals, ← same.vector, get_or-part s v (n + p) i nan (omega arith))
 
   -- xs are the vector's next four elements
   pub columns-four : (u : List Float) {xs : List Float} → i + 4 ≤ n → xs ≡ tab (λ a. s ! (v + i + a * 1)) 4
       → u ≡ put s out (tab (λ j. products (part s out p ! j) (λ a. design m s p l (i + a) j) (λ a. xs ! a) 4) p)
-      → Made s₀ out p (column_sum m s₀ p l out v (n + p) (i + 4)) u p
-  columns-four u {xs} h q e = sums_on m same i 4 d room (omega arith) _ (four-read s v i q) u e
+      → Made s₀ out p (column_sum m s₀ p l v (n + p) (i + 4)) u p
+  columns-four u {xs} h q e = sums_on m same (λ _. plus0) i 4 d r.room (omega arith) _ (four-read s v i q) u e
 
-  pub columns-all : (t : Terms) (u : List Float)
+  pub columns-all : (t : Terms) (u : List Float) → n ≤ i → i ≤ n
       → u ≡ put s out (zip_of (λ (x y : Float). t.gamma ⊗ x ⊕ t.padding ⊗ y) p (part s out p) (part s (v + n) p))
-      → Made s₀ out p (λ j. t.gamma ⊗ column_sum m s₀ p l out v (n + p) i j ⊕ t.padding ⊗ part s₀ v (n + p) ! (n + j)) u p
-  unfolding zip_of
-  columns-all t u e = made_again d _ u (e ∙ ap (put s out) (tab-ext _ _ p (λ j q. rw (written d room j q, tail j q)))) where
+      → u ≡ put s₀ out (lazy_columns n p t m (part s₀ l.centre p) (part s₀ l.scale p) (part s₀ l.recip p) (part s₀ v (n + p)))
+  unfolding zip_of lazy_columns
+  columns-all t u h k e = (made_again d _ u (e ∙ ap (put s out) (tab-ext _ _ p (λ j q. rw (written d r.room j q, tail j q, all))))).is where
+    all : i ≡ n
+    all = omega arith
+
     tail : (j : ℕ) → j < p → part s (v + n) p ! j ≡ part s₀ v (n + p) ! (n + j)
     tail j q = rw (← same.vector, get_or-part s (v + n) p j nan q, get_or-part s v (n + p) (n + j) nan (omega arith), add_assoc)
-
--- `fill` wrote the same elements, and nothing that is read
-pub columns-end : {m : List Float} {n p : ℕ} {s₀ : List Float} {l : Places} {v out : ℕ} → Reads m n p s₀ l v (n + p) out p → (t : Terms)
-    {s u : List Float} → s ≡ put s₀ out (fill_of plus0 p)
-    → Made s out p (λ j. t.gamma ⊗ column_sum m s p l out v (n + p) n j ⊕ t.padding ⊗ part s v (n + p) ! (n + j)) u p
-    → u ≡ put s₀ out (lazy_columns n p t m (part s₀ l.centre p) (part s₀ l.scale p) (part s₀ l.recip p) (part s₀ v (n + p)))
-unfolding fill_of lazy_columns
-columns-end {m} {n} {p} {s₀} {l} {v} {out} r t {s} {u} e d =
-    let f = made_of s₀ out p (λ k. plus0) s e in
-    let k = while-made r (omega arith) f in
-    rw (k.centres, k.scales, k.reciprocals, k.vector) at
-    (made_again f (λ j. t.gamma ⊗ products plus0 (λ a. design m s p l a j) (λ a. part s v (n + p) ! a) n ⊕ t.padding ⊗ part s v (n + p) ! (n + j)) u
-    (d.is ∙ ap (put s out) (tab-ext _ _ p (λ j h. rw (written f r.room j h))))).is

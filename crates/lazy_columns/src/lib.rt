@@ -1,17 +1,19 @@
 // The transposed design that is not stored, of lazy_normalization.rs, times a vector: from the lent matrix, centres, scales and reciprocals.
 #![tactic(auto)]
 
-ghost use Rattle.std.specs.Prelude.{◌≡◌, cond, ◌+◌, ◌*◌, ◌/◌, ◌≤◌, length, Float};
+ghost use Rattle.std.specs.Prelude.{◌≡◌, ◌+◌, ◌*◌, ◌≤◌, length, Float};
 ghost use Rattle.numbers.specs.Ops.{◌⊕◌, ◌⊗◌};
 ghost use Rattle.arrays.specs.Part.{part, put, tab};
 ghost use Rattle.arrays.specs.Vectors.{zip_of, Two};
 ghost use Rattle.arrays.specs.Sums.{products, ◌!◌};
 ghost use Rattle.lazy_normalization.specs.Lazy.{lazy_at, lazy_columns, Reads};
-ghost use Rattle.lazy_columns.specs.ColumnSums.{lazy_added, all_there, RowAdds, FourAdd};
+ghost use Rattle.lazy_columns.specs.ColumnSums.{all_there, RowAdds, FourAdd};
 
+use arrays::vectors::fill;
 use layout::Places;
 use lazy_normalization::normalise;
 use settings::Terms;
+use several::four_at;
 
 // The Rust's transpose_matvec: the transposed design times the vector at v. Rows are added to all sums at once, four at a time where no reciprocal is missing.
 pub fn columns(
@@ -28,33 +30,17 @@ pub fn columns(
     ensures { s.new ≡ put s.old out (lazy_columns n p t m.now (part s.old l.centre p)
         (part s.old l.scale p) (part s.old l.recip p) (part s.old v (n + p))) }
 {
-    arrays::vectors::fill(s, out, p, 0.0);
-    let done = add_fours(m, n, p, s, l, v, out);
-    let mut at = done * p;
-    for i in done..n {
-        let x = s[v + i];
-        add_row(m, i, at, p, x, s, l, out);
-        at += p;
-    }
-    augment(s, out, t, v + n, p);
-}
-
-// Adds rows to the p sums at `out`, four at a time, and answers how many: all that fours reach, or none where a reciprocal is missing.
-fn add_fours(m: &[f64], n: usize, p: usize, s: &mut [f64], l: Places, v: usize, out: usize) -> usize
-    requires { Reads m.now n p s.old l v (n + p) out p }
-    ensures value { result ≡ cond (all_there (part s.old l.recip p) p) (4 * (n / 4)) 0 }
-    ensures s_after { s.new ≡ put s.old out (lazy_added result p m.now (part s.old l.centre p)
-        (part s.old l.scale p) (part s.old l.recip p) (part s.old v (n + p)) (part s.old out p)) }
-{
-    if !all_there(s, l.recip, p) {
-        return 0;
-    }
-    let q = n / 4;
-    for i in 0..q {
-        let x = several::four_at(s, v + 4 * i, 1);
+    let fours = if all_there(s, l.recip, p) { n / 4 } else { 0 };
+    fill(s, out, p, 0.0);
+    for i in 0..fours {
+        let x = four_at(s, v + 4 * i, 1);
         add_four(m, 4 * i, p, x, s, l, out);
     }
-    4 * q
+    for i in 4 * fours..n {
+        let x = s[v + i];
+        add_row(m, i, p, x, s, l, out);
+    }
+    augment(s, out, t, v + n, p);
 }
 
 // Whether every reciprocal is there, so that nothing divides.
@@ -87,15 +73,15 @@ fn add_four(m: &[f64], i: usize, p: usize, x: [f64; 4], s: &mut [f64], l: Places
         let by = s[rc + j];
         let mut t = s[out + j];
         for k in 0..4 {
-            t = t + (m[at + k * p + j] - c) * by * x[k];
+            t += (m[at + k * p + j] - c) * by * x[k];
         }
         s[out + j] = t;
     }
 }
 
-// Row i, which starts at `at`, times x, added to the p sums at `out`.
-fn add_row(m: &[f64], i: usize, at: usize, p: usize, x: f64, s: &mut [f64], l: Places, out: usize)
-    requires { RowAdds m.now i at p s.old l out }
+// Row i times x, added to the p sums at `out`.
+fn add_row(m: &[f64], i: usize, p: usize, x: f64, s: &mut [f64], l: Places, out: usize)
+    requires { RowAdds m.now i (i * p) p s.old l out }
     ensures { s.new
         ≡ put s.old out (tab (λ j. part s.old out p ! j ⊕ lazy_at p m.now (part s.old l.centre p)
         (part s.old l.scale p) (part s.old l.recip p) i j ⊗ x) p) }
@@ -103,9 +89,9 @@ fn add_row(m: &[f64], i: usize, at: usize, p: usize, x: f64, s: &mut [f64], l: P
     let ce = l.centre;
     let sc = l.scale;
     let rc = l.recip;
+    let at = i * p;
     for j in 0..p {
-        let y = normalise(m[at + j], s[ce + j], s[sc + j], s[rc + j]);
-        s[out + j] = s[out + j] + y * x;
+        s[out + j] += normalise(m[at + j], s[ce + j], s[sc + j], s[rc + j]) * x;
     }
 }
 

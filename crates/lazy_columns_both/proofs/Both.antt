@@ -79,24 +79,24 @@ two-on r d e =
 
 pub fours-made : (m s : List Float) (n p count : ℕ) (l : Places) (v : ℕ) (t t₁ : List Float) (at : ℕ)
     → t₁ ≡ put t at (lazy_added count p m (part s l.centre p) (part s l.scale p) (part s l.recip p) (part s v (n + p)) (part t at p))
-    → Made t at p (summed m s p l t at v (n + p) count) t₁ p
+    → Made t at p (summed m s p l (λ j. part t at p ! j) v (n + p) count) t₁ p
 unfolding lazy_added
 fours-made m s n p count l v t t₁ at e = made_of t at p _ t₁ e
 
 -- the rest after the first k rows
 pub rest-made : (m : List Float) {n p : ℕ} {s s₁ : List Float} {l : Places} {v out : ℕ} {f : ℕ → Float} → Reads m n p s l v (n + p) out p → Made s out p f s₁ p
-    → (k : ℕ) → k ≤ n → (t t₁ t₂ : List Float) (at : ℕ) → at + p ≤ length t → Made t at p (summed m s p l t at v (n + p) k) t₁ p
-    → t₂ ≡ put t₁ at (added_from m p s₁ l t₁ at v k (n - k)) → Made t at p (summed m s p l t at v (n + p) n) t₂ p
+    → (k : ℕ) → k ≤ n → (t t₁ t₂ : List Float) (at : ℕ) → at + p ≤ length t → Made t at p (summed m s p l (λ j. part t at p ! j) v (n + p) k) t₁ p
+    → t₂ ≡ put t₁ at (added_from m p s₁ l t₁ at v k (n - k)) → Made t at p (summed m s p l (λ j. part t at p ! j) v (n + p) n) t₂ p
 unfolding added_from
 rest-made m {n} r d k h t t₁ t₂ at room made e =
     let all : k + (n - k) ≡ n = omega arith in
-    rw all at (sums_on m (while-made r (omega arith) d) k (n - k) made room (omega arith) _ (λ a q. refl) t₂ e)
+    rw all at (sums_on m (while-made r (omega arith) d) _ k (n - k) made room (omega arith) _ (λ a q. refl) t₂ e)
 
 -- ---- all rows, and the end; the sums lie in s, or are a list's first
 
 -- over sums of +0, which are written to s₁
 pub all-rows : {m : List Float} {n p : ℕ} {s s₁ : List Float} {l : Places} {v out : ℕ} → Reads m n p s l v (n + p) out p → Made s out p (λ k. plus0) s₁ p
-    → (t t₁ t₂ : List Float) (at : ℕ) → at + p ≤ length t → t₁ ≡ put t at (fill_of plus0 p) → Made t₁ at p (summed m s₁ p l t₁ at v (n + p) n) t₂ p
+    → (t t₁ t₂ : List Float) (at : ℕ) → at + p ≤ length t → t₁ ≡ put t at (fill_of plus0 p) → Made t₁ at p (summed m s₁ p l (λ j. part t₁ at p ! j) v (n + p) n) t₂ p
     → t₂ ≡ put t at (lazy_added n p m (part s l.centre p) (part s l.scale p) (part s l.recip p) (part s v (n + p)) (fill_of plus0 p))
 unfolding fill_of lazy_added
 all-rows {m} {n} {p} {s} {s₁} {l} {v} r d t t₁ t₂ at room e d₂ =

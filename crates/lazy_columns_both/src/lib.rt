@@ -153,8 +153,8 @@ fn add_four(
         let mut b = y[j];
         for k in 0..4 {
             let e = (m[at + k * p + j] - c) * by;
-            a = a + e * x[k];
-            b = b + e * z[k];
+            a += e * x[k];
+            b += e * z[k];
         }
         s[out + j] = a;
         y[j] = b;

@@ -10,7 +10,7 @@ use lib.Ieee.{Float}
 use Rattle.arrays.specs.Sums.{◌!◌}
 use Rattle.arrays.proofs.Folds.{fold-none}
 use Rattle.gram_panels.specs.Panels.{mat, least, same, wid, cell, panel_at, carry, Block, low}
-use Rattle.matrices.proofs.Lengths.{row_room, rows-room}
+use Rattle.matrices.proofs.Lengths.{row_room, next_row, rows-room}
 use Rattle.gram_panels.proofs.Mats.{ends, length-mat, mat-below, mat-beyond, mat-in, mat-gap, mat-self, mat-ext, mat-none}
 use Rattle.gram_panels.proofs.Mats.{mat-mat, mat-append, mat-wide, striped-none}
 use Rattle.lazy_gram.specs.declared.GramPlaces.{GramPlaces}
@@ -18,6 +18,20 @@ use Rattle.lazy_gram.specs.Nest.{Like, tri, entry}
 use Rattle.lazy_gram.specs.Nest.{next, advanced, whole, advanced_low, Lie, Pairs, Rows, Clear}
 use Rattle.lazy_gram.proofs.Likes.{like-refl, like-trans, like-mat, like-panel, like-wide}
 use Rattle.lazy_gram.proofs.Carried.{cell-like, carry-adv, adv-like, adv-entry}
+
+-- what lies in a list lies in one of its length
+pub lie-on : {m : List Float} {p row nr : ℕ} {s₀ s : List Float} {pl : GramPlaces} → length s ≡ length s₀ → Lie m p row nr s₀ pl → Lie m p row nr s pl
+lie-on e lie = record {
+  matrix = lie.matrix;
+  rows = lie.rows;
+  some = lie.some;
+  centres = lie.centres;
+  scales = lie.scales;
+  left = lie.left;
+  right = lie.right;
+  gram = omega arith;
+  fits = omega arith;
+}
 
 -- ---- the columns before a block's own
 
@@ -125,18 +139,8 @@ module _ {m : List Float} {p row nr : ℕ} {s₀ : List Float} {pl : GramPlaces}
 
   pub column-pairs : Pairs m p row nr s₁ pl jb nj
   column-pairs =
-      let n : length s₁ ≡ length s₀ = column-panel.len in record {
-        lie = record {
-          matrix = lie.matrix;
-          rows = lie.rows;
-          some = lie.some;
-          centres = lie.centres;
-          scales = lie.scales;
-          left = lie.left;
-          right = lie.right;
-          gram = omega (arith, lie);
-          fits = omega (arith, lie);
-        };
+      record {
+        lie = lie-on column-panel.len lie;
         cols = omega arith;
         width = omega arith;
         held = λ i a hi ha. column-held i a hi ha ∙ sym (column-cells (row + i) (jb * pl.cc + a) (omega arith));
@@ -209,12 +213,13 @@ module _ {m : List Float} {p row nr : ℕ} {s₀ : List Float} {pl : GramPlaces}
 -- ---- one more block of columns, and one more of rows
 
 module _ {m : List Float} {p row nr : ℕ} {s₀ : List Float} {pl : GramPlaces} (lie : Lie m p row nr s₀ pl) where
-  pub block-turn : (jb j : ℕ) (s s' : List Float) → j ≡ jb * pl.cc → j < p
-      → Like pl.le (pl.ri + nr * pl.cc) s (advanced_low m p row nr s₀ pl (least p j))
+  pub block-turn : (jb : ℕ) (s s' : List Float) → jb * pl.cc < p
+      → Like pl.le (pl.ri + nr * pl.cc) s (advanced_low m p row nr s₀ pl (least p (jb * pl.cc)))
       → Like pl.le (pl.ri + nr * pl.cc) s'
       (advanced m p row nr s pl (jb * pl.cc) (tri (jb * pl.cc)) (least (p - jb * pl.cc) pl.cc))
-      → Like pl.le (pl.ri + nr * pl.cc) s' (advanced_low m p row nr s₀ pl (least p (j + pl.cc)))
-  block-turn jb j s s' ej hj L₀ L₁ =
+      → Like pl.le (pl.ri + nr * pl.cc) s' (advanced_low m p row nr s₀ pl (least p ((jb + 1) * pl.cc)))
+  block-turn jb s s' hj L₀ L₂ =
+      let j = jb * pl.cc in
       let c = cell m p s₀ pl.ce pl.sc in
       let c₁ = cell m p s pl.ce pl.sc in
       let W = whole c s₀ pl.ga p row nr in
@@ -226,10 +231,8 @@ module _ {m : List Float} {p row nr : ℕ} {s₀ : List Float} {pl : GramPlaces}
       let Wj : ℕ → ℕ → Float = λ a. W (j + a) in
       let lj : ℕ → ℕ = λ a. low (j + a) in
       let ml : least p j ≡ j = omega arith in
-      let mn : least p (j + pl.cc) ≡ j + nj = omega arith in
+      let mn : least p ((jb + 1) * pl.cc) ≡ j + nj = omega (arith, next_row jb pl.cc) in
       let L : Like pl.le en s M = subst (λ (k : ℕ). Like pl.le en s (mat s₀ pl.ga p low W k)) ml L₀ in
-      let L₂ : Like pl.le en s' (mat s g p (tri j) E nj) =
-      subst (λ (k : ℕ). Like pl.le en s' (advanced m p row nr s pl k (tri k) (least (p - k) pl.cc))) (sym ej) L₁ in
       let room : j * p + nj * p ≤ p * p = rows-room j nj p p (omega arith) in
       let len : length s ≡ length s₀ = L.len ∙ length-mat s₀ pl.ga p low W j in
       let lows : (q : ℕ) → q < pl.le → s ! q ≡ s₀ ! q = λ q l. L.low q l ∙ mat-below s₀ pl.ga p low W j q (omega (arith, lie)) in
@@ -252,34 +255,6 @@ module _ {m : List Float} {p row nr : ℕ} {s₀ : List Float} {pl : GramPlaces}
       (like-trans pl.le en s' (mat s g p (tri j) E nj) (mat s₀ pl.ga p low W (j + nj)) L₂
       (subst (λ (v : List Float). Like pl.le en v (mat s₀ pl.ga p low W (j + nj))) (sym t)
       (subst (λ (v : List Float). Like pl.le en (mat s g p lj Wj nj) v) (mat-append s₀ pl.ga p low W j nj) L₃)))
-
-  -- the panels of the last block of rows may be shorter than those before
-  pub rows-turn : (en : ℕ) (s s' : List Float) → pl.ri + nr * pl.cc ≤ en → en ≤ pl.ga → Like pl.le en s (mat s₀ pl.ga p low (entry (cell m p s₀ pl.ce pl.sc) row) p)
-      → Like pl.le (pl.ri + nr * pl.cc) s' (advanced_low m p row nr s pl p)
-      → Like pl.le en s' (mat s₀ pl.ga p low (entry (cell m p s₀ pl.ce pl.sc) (row + nr)) p)
-  rows-turn en s s' he hg L L₁ =
-      let c = cell m p s₀ pl.ce pl.sc in
-      let c₁ = cell m p s pl.ce pl.sc in
-      let M = mat s₀ pl.ga p low (entry c row) p in
-      let F = entry c (row + nr) in
-      let Q = whole c₁ s pl.ga p row nr in
-      let len : length s ≡ length s₀ = L.len ∙ length-mat s₀ pl.ga p low (entry c row) p in
-      let lows : (q : ℕ) → q < pl.le → s ! q ≡ s₀ ! q = λ q l. L.low q l ∙ mat-below s₀ pl.ga p low (entry c row) p q (omega (arith, lie)) in
-      let cells : (i b : ℕ) → b < p → c₁ i b ≡ c i b =
-      λ i b l. cell-like m p s s₀ pl.ce pl.sc i b (lows (pl.ce + b) (omega (arith, lie))) (lows (pl.sc + b) (omega (arith, lie))) in
-      let t : mat s pl.ga p low Q p ≡ mat s pl.ga p low F p =
-      mat-ext s pl.ga p low low Q F p (λ a l. refl)
-      (λ a b ha hb.
-      adv-like c₁ c row (s ! (pl.ga + a * p + b)) (entry c row a b) nr a b
-      (L.high (pl.ga + a * p + b) (omega arith)
-      ∙ mat-in s₀ pl.ga p low (entry c row) p a b (λ i l. omega arith) (omega (arith, lie, row_room a p p ha)) ha hb)
-      (λ i. cells i a (omega arith)) (λ i. cells i b (omega arith))
-      ∙ adv-entry c row nr a b) in
-      let L₃ : Like pl.le en (mat s pl.ga p low F p) (mat M pl.ga p low F p) =
-      like-mat pl.le en s M pl.ga p low F p (ends pl.ga p p low p (length s) (λ a l. omega arith) (omega (arith, lie))) L in
-      like-trans pl.le en s' (mat s pl.ga p low Q p) (mat s₀ pl.ga p low F p) (like-wide pl.le en (omega arith) he L₁)
-      (subst (λ (v : List Float). Like pl.le en v (mat s₀ pl.ga p low F p)) (sym t)
-      (subst (λ (v : List Float). Like pl.le en (mat s pl.ga p low F p) v) (mat-mat s₀ pl.ga p low (entry c row) F p (λ a l. omega arith)) L₃))
 
 pub block_start : (le en ga p : ℕ) (s : List Float) (W : ℕ → ℕ → Float) → Like le en s (mat s ga p low W (least p 0))
 block_start le en ga p s W =
@@ -312,3 +287,36 @@ rows_lie {n = n} {p} {rr} {pl = pl} pre row nr s hr e len =
       gram = omega arith;
       fits = omega arith;
     }
+
+-- the panels of the last band may be shorter than those before
+pub rows-turn : {m : List Float} {n p rr : ℕ} {s₀ : List Float} {pl : GramPlaces} → Rows m n p rr s₀ pl → {row nr : ℕ} → row ≤ n → nr ≡ least (n - row) rr
+    → (s s' : List Float) → Like pl.le (pl.ri + rr * pl.cc) s (mat s₀ pl.ga p low (entry (cell m p s₀ pl.ce pl.sc) row) p)
+    → Like pl.le (pl.ri + nr * pl.cc) s' (advanced_low m p row nr s pl p)
+    → Like pl.le (pl.ri + rr * pl.cc) s' (mat s₀ pl.ga p low (entry (cell m p s₀ pl.ce pl.sc) (row + nr)) p)
+rows-turn {m} {n} {p} {rr} {s₀} {pl} pre {row} {nr} hr e s s' L L₁ =
+    let lie = rows_lie pre row nr s₀ hr e refl in
+    let en = pl.ri + rr * pl.cc in
+    let he : nr * pl.cc ≤ rr * pl.cc = mul-le-mul_right pl.cc (omega arith) in
+    let hg = pre.right in
+    let c = cell m p s₀ pl.ce pl.sc in
+    let c₁ = cell m p s pl.ce pl.sc in
+    let M = mat s₀ pl.ga p low (entry c row) p in
+    let F = entry c (row + nr) in
+    let Q = whole c₁ s pl.ga p row nr in
+    let len : length s ≡ length s₀ = L.len ∙ length-mat s₀ pl.ga p low (entry c row) p in
+    let lows : (q : ℕ) → q < pl.le → s ! q ≡ s₀ ! q = λ q l. L.low q l ∙ mat-below s₀ pl.ga p low (entry c row) p q (omega (arith, lie)) in
+    let cells : (i b : ℕ) → b < p → c₁ i b ≡ c i b =
+    λ i b l. cell-like m p s s₀ pl.ce pl.sc i b (lows (pl.ce + b) (omega (arith, lie))) (lows (pl.sc + b) (omega (arith, lie))) in
+    let t : mat s pl.ga p low Q p ≡ mat s pl.ga p low F p =
+    mat-ext s pl.ga p low low Q F p (λ a l. refl)
+    (λ a b ha hb.
+    adv-like c₁ c row (s ! (pl.ga + a * p + b)) (entry c row a b) nr a b
+    (L.high (pl.ga + a * p + b) (omega arith)
+    ∙ mat-in s₀ pl.ga p low (entry c row) p a b (λ i l. omega arith) (omega (arith, lie, row_room a p p ha)) ha hb)
+    (λ i. cells i a (omega arith)) (λ i. cells i b (omega arith))
+    ∙ adv-entry c row nr a b) in
+    let L₃ : Like pl.le en (mat s pl.ga p low F p) (mat M pl.ga p low F p) =
+    like-mat pl.le en s M pl.ga p low F p (ends pl.ga p p low p (length s) (λ a l. omega arith) (omega (arith, lie))) L in
+    like-trans pl.le en s' (mat s pl.ga p low Q p) (mat s₀ pl.ga p low F p) (like-wide pl.le en (omega arith) (omega arith) L₁)
+    (subst (λ (v : List Float). Like pl.le en v (mat s₀ pl.ga p low F p)) (sym t)
+    (subst (λ (v : List Float). Like pl.le en (mat s pl.ga p low F p) v) (mat-mat s₀ pl.ga p low (entry c row) F p (λ a l. omega arith)) L₃))

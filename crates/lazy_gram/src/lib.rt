@@ -10,7 +10,7 @@ ghost use Rattle.lazy_gram.specs.Nest.{Like, entry, advanced, Pairs, tri, advanc
 ghost use Rattle.lazy_gram.specs.Nest.{raised_at, gram_at};
 
 use arrays::vectors::{fill, sweep, times};
-use gram_panels::{block, fill_panel, least_of, mirror};
+use gram_panels::{Band, Pair, block, fill_panel, mirror};
 use layout::{Places, Sizes};
 use settings::Terms;
 
@@ -25,71 +25,66 @@ pub struct GramPlaces {
     pub ga: usize,
 }
 
-// For nr rows from `row`: adds the products of the nj columns from jb * cc, which the left panel holds, with each column before them.
-fn pairs(
-    m: &[f64],
-    p: usize,
-    row: usize,
-    nr: usize,
-    s: &mut [f64],
-    pl: GramPlaces,
-    jb: usize,
-    nj: usize,
-)
-    requires { Pairs m.now p row nr s.old pl jb nj }
-    ensures { Like pl.ri (pl.ri + nr * pl.cc) s.new (advanced m.now p row nr s.old pl (jb * pl.cc)
+// For the band's rows: adds the products of the nj columns from jb * cc, which the left panel holds, with each column before them.
+fn pairs(m: &[f64], b: Band, s: &mut [f64], pl: GramPlaces, jb: usize, nj: usize)
+    requires { Pairs m.now b.p b.row b.nr s.old pl jb nj }
+    ensures { Like pl.ri (pl.ri + b.nr * pl.cc) s.new (advanced m.now b.p b.row b.nr s.old pl (jb * pl.cc)
         (same (jb * pl.cc)) nj) }
 {
     let j = jb * pl.cc;
-    let g = pl.ga + j * p;
-    let mut kb = 0usize;
-    while kb < jb {
+    let g = pl.ga + j * b.p;
+    let pair = Pair {
+        left: pl.le,
+        right: pl.ri,
+        cc: pl.cc,
+        nr: b.nr,
+    };
+    for kb in 0..jb {
         let k = kb * pl.cc;
-        fill_panel(m, p, row, nr, k, pl.cc, s, pl.ce, pl.sc, pl.ri, pl.cc);
-        block(s, g + k, p, nj, pl.cc, j - k, pl.le, pl.ri, pl.cc, nr);
-        kb += 1;
+        fill_panel(m, b, k, pl.cc, s, pl.ce, pl.sc, pl.ri, pl.cc);
+        block(s, g + k, b.p, nj, pl.cc, j - k, pair);
     }
 }
 
-// For nr rows from `row`: adds the products of the columns from jb * cc, cc at most, with each column up to them.
-fn column(m: &[f64], p: usize, row: usize, nr: usize, s: &mut [f64], pl: GramPlaces, jb: usize)
-    requires { Column m.now p row nr s.old pl jb }
-    ensures { Like pl.le (pl.ri + nr * pl.cc) s.new (advanced m.now p row nr s.old pl (jb * pl.cc)
-        (tri (jb * pl.cc)) (least (p - jb * pl.cc) pl.cc)) }
+// For the band's rows: adds the products of the columns from jb * cc, cc at most, with each column up to them.
+fn column(m: &[f64], b: Band, s: &mut [f64], pl: GramPlaces, jb: usize)
+    requires { Column m.now b.p b.row b.nr s.old pl jb }
+    ensures { Like pl.le (pl.ri + b.nr * pl.cc) s.new (advanced m.now b.p b.row b.nr s.old pl (jb * pl.cc)
+        (tri (jb * pl.cc)) (least (b.p - jb * pl.cc) pl.cc)) }
 {
     let j = jb * pl.cc;
-    let nj = least_of(p - j, pl.cc);
-    fill_panel(m, p, row, nr, j, nj, s, pl.ce, pl.sc, pl.le, pl.cc);
-    pairs(m, p, row, nr, s, pl, jb, nj);
-    block(s, pl.ga + j * p + j, p, nj, nj, 0, pl.le, pl.le, pl.cc, nr);
+    let nj = pl.cc.min(b.p - j);
+    fill_panel(m, b, j, nj, s, pl.ce, pl.sc, pl.le, pl.cc);
+    pairs(m, b, s, pl, jb, nj);
+    let own = Pair {
+        left: pl.le,
+        right: pl.le,
+        cc: pl.cc,
+        nr: b.nr,
+    };
+    block(s, pl.ga + j * b.p + j, b.p, nj, nj, 0, own);
 }
 
-// For nr rows from `row`: adds the products of all pairs of columns.
-fn row_block(m: &[f64], p: usize, row: usize, nr: usize, s: &mut [f64], pl: GramPlaces)
-    requires { Lie m.now p row nr s.old pl }
-    ensures { Like pl.le (pl.ri + nr * pl.cc) s.new (advanced_low m.now p row nr s.old pl p) }
+// For the band's rows: adds the products of all pairs of columns.
+fn row_block(m: &[f64], b: Band, s: &mut [f64], pl: GramPlaces)
+    requires { Lie m.now b.p b.row b.nr s.old pl }
+    ensures { Like pl.le (pl.ri + b.nr * pl.cc) s.new (advanced_low m.now b.p b.row b.nr s.old pl b.p) }
 {
-    let mut jb = 0usize;
-    let mut j = 0usize;
-    while j < p {
-        column(m, p, row, nr, s, pl, jb);
-        jb += 1;
-        j += pl.cc;
+    for jb in 0..b.p.div_ceil(pl.cc) {
+        column(m, b, s, pl, jb);
     }
 }
 
-// Adds the products of all n rows, in blocks of rr.
+// Adds the products of all n rows, in bands of rr.
 fn rows(m: &[f64], n: usize, p: usize, rr: usize, s: &mut [f64], pl: GramPlaces)
     requires rows { Rows m.now n p rr s.old pl }
     requires clear { Clear s.old p pl.ga }
     ensures { Like pl.le (pl.ri + rr * pl.cc) s.new (mat s.old pl.ga p low
         (entry (cell m.now p s.old pl.ce pl.sc) n) p) }
 {
-    let mut row = 0usize;
-    while row < n {
-        let nr = least_of(n - row, rr);
-        row_block(m, p, row, nr, s, pl);
-        row += nr;
+    for row in (0..n).step_by(rr) {
+        let nr = rr.min(n - row);
+        row_block(m, Band { p, row, nr }, s, pl);
     }
 }
 
@@ -98,10 +93,8 @@ fn clear_low(s: &mut [f64], ga: usize, p: usize)
     requires { ga + p * p ≤ length s.old }
     ensures { s.new ≡ mat s.old ga p low nones p }
 {
-    let mut j = 0usize;
-    while j < p {
+    for j in 0..p {
         fill(s, ga + j * p, j + 1, 0.0);
-        j += 1;
     }
 }
 
@@ -118,10 +111,8 @@ fn augment(s: &mut [f64], ga: usize, p: usize, gg: f64, pp: f64)
     requires { ga + p * p ≤ length s.old }
     ensures { s.new ≡ mat s.old ga p low (λ j. raised_at s.old (ga + j * p) gg pp j) p }
 {
-    let mut j = 0usize;
-    while j < p {
+    for j in 0..p {
         augment_row(s, ga + j * p, j, gg, pp);
-        j += 1;
     }
 }
 
@@ -159,7 +150,7 @@ pub fn gram(m: &[f64], sh: Sizes, t: Terms, s: &mut [f64], l: Places)
     let pl = GramPlaces {
         ce: l.centre,
         sc: l.scale,
-        le: le,
+        le,
         ri: l.right,
         cc: sh.pc,
         ga: l.gram,

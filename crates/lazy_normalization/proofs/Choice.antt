@@ -22,11 +22,7 @@ pub infinity : one ⊘ plus0 ≡ f64 0x7ff0_0000_0000_0000
 unfolding div of_bits
 infinity = refl
 
-pub normal-is : (x a : Float) (b : Bool) → a ≡ magnitude_of x → le (f64 0x0010_0000_0000_0000) a ≡ b → b && lt a (f64 0x7ff0_0000_0000_0000) ≡ is_normal x
-unfolding is_normal
-normal-is x a b e l = rw (← e, l)
-
-pub reciprocal_is : (scale : Float) (a b : Bool) → a ≡ is_normal scale → b ≡ is_normal (one ⊘ scale) → cond (a && b) (one ⊘ scale) plus0 ≡ reciprocal_of scale
+reciprocal_is : (scale : Float) (a b : Bool) → a ≡ is_normal scale → b ≡ is_normal (one ⊘ scale) → cond (a && b) (one ⊘ scale) plus0 ≡ reciprocal_of scale
 unfolding reciprocal_of
 reciprocal_is scale a b p q = rw (p, q)
 

@@ -19,7 +19,7 @@ use Rattle.layout.specs.declared.Places.{Places}
 use Rattle.settings.specs.declared.Terms.{Terms}
 use Rattle.lazy_normalization.specs.Lazy.{Reads, normalised}
 use Rattle.lazy_normalization.proofs.Entries.{design, unwritten_of, while-made}
-use Rattle.lazy_rows.specs.RowSums.{RowReads, EightRead}
+use Rattle.lazy_rows.specs.RowSums.{lazy_sums, RowReads, EightRead}
 
 -- row i times the vector
 abbrev pub row_sum : List Float → List Float → ℕ → Places → ℕ → ℕ → Float
@@ -42,14 +42,14 @@ one_of {i = i} {e} {p} r k h = record {
   vector = r.vector;
 }
 
--- a turn that writes one row of each eighth: xs are their sums, ys those times gamma
-pub eighths-turn : {m : List Float} {e p : ℕ} {s₀ : List Float} {l : Places} {v out : ℕ} → Reads m (8 * e) p s₀ l v p out (8 * e)
+-- a turn that writes one row of each run: xs are their sums, ys those times gamma
+pub eight-more : {m : List Float} {n p e : ℕ} {s₀ : List Float} {l : Places} {v out : ℕ} → Reads m n p s₀ l v p out (n + p) → 8 * e ≤ n
     → (gamma : Float) {s : List Float} {i : ℕ} → Runs s₀ out 8 e (λ a. row_sum m s₀ p l v a ⊗ gamma) s i 0
     → {xs ys u : List Float} → xs ≡ tab (λ a. row_sum m s p l v (a * e + i)) 8 → ys ≡ tab (λ a. xs ! a ⊗ gamma) 8
     → u ≡ spread_of s (out + i) e (λ a. ys ! a) 8 → i < e → Runs s₀ out 8 e (λ a. row_sum m s₀ p l v a ⊗ gamma) u (i + 1) 0
-eighths-turn r gamma d {u = u} q z w h =
-    let k = unwritten_of r (but-kept d.but) in
-    runs-spread d _ u w h r.room
+eight-more r few gamma d {u = u} q z w h =
+    let k = unwritten_of r (λ a b off. but-kept d.but a b (λ o. omega (arith, off o))) in
+    runs-spread d _ u w h (omega (arith, r.room))
     (λ a b. rw (z, get_or-tab _ 8 a nan b, q, get_or-tab _ 8 a nan b, k.centres, k.scales, k.reciprocals, k.vector))
 
 -- ---- all rows
@@ -62,8 +62,8 @@ module _ {m : List Float} {n p : ℕ} {s₁ : List Float} {l : Places} {v out : 
       made_more d (x ⊗ t.gamma) h (rw (e, k.centres, k.scales, k.reciprocals, k.vector))
 
   pub rows_all : (u : List Float) → n ≤ i → u ≡ put s (out + n) (map_of (λ (y : Float). t.padding ⊗ y) p (part s v p))
-      → u ≡ put s₀ out (tab (λ k. row_sum m s₀ p l v k ⊗ t.gamma) n ++ tab (λ j. t.padding ⊗ part s₀ v p ! j) p)
-  unfolding map_of
+      → u ≡ put s₀ out (lazy_sums n p t m (part s₀ l.centre p) (part s₀ l.scale p) (part s₀ l.recip p) (part s₀ v p) ++ tab (λ j. t.padding ⊗ part s₀ v p ! j) p)
+  unfolding map_of lazy_sums
   rows_all u h e =
       let k = while-made r (omega arith) d in
       let sums = tab (λ k. row_sum m s₀ p l v k ⊗ t.gamma) n in

@@ -11,16 +11,15 @@ use Rattle.arrays.specs.Sums.{◌!◌}
 use Rattle.matrices.specs.Grid.{grid}
 use Rattle.matrices.proofs.Grid.{length-grid, grid-more}
 
--- the first i of p rows from `out` are written, the next starts at `at`, and all else is as it was in s₀
-pub record Paired (s₀ : List Float) (out p : ℕ) (f : ℕ → ℕ → Float) (s : List Float) (at i : ℕ) : Type 0 where
+-- the first i of p rows from `out` are written, and all else is as it was in s₀
+pub record Paired (s₀ : List Float) (out p : ℕ) (f : ℕ → ℕ → Float) (s : List Float) (i : ℕ) : Type 0 where
   pub within : i ≤ p
-  pub place : at ≡ out + i * 2
   pub long : length s ≡ length s₀
   pub is : s ≡ put s₀ out (grid f i 2)
 
-pub paired_none : (s₀ : List Float) (out p : ℕ) (f : ℕ → ℕ → Float) → Paired s₀ out p f s₀ out 0
+pub paired_none : (s₀ : List Float) (out p : ℕ) (f : ℕ → ℕ → Float) → Paired s₀ out p f s₀ 0
 unfolding grid
-paired_none s₀ out p f = record { within = omega arith; place = omega arith; long = refl; is = sym (put-none s₀ out) }
+paired_none s₀ out p f = record { within = omega arith; long = refl; is = sym (put-none s₀ out) }
 
 put_two : (s : List Float) (a : ℕ) (xs : List Float) (x y : Float)
     → set (set (put s a xs) (a + length xs) x) (a + length xs + 1) y ≡ put s a (xs ++ (x ∷ y ∷ []))
@@ -32,14 +31,13 @@ row_more : (f : ℕ → ℕ → Float) (i : ℕ) → grid f i 2 ++ (f i 0 ∷ f 
 unfolding tab
 row_more f i = sym (grid-more f i 2)
 
-module _ {s₀ : List Float} {out p : ℕ} {f : ℕ → ℕ → Float} {s : List Float} {at i : ℕ} (m : Paired s₀ out p f s at i) where
-  pub paired-more : (x y : Float) → i < p → x ≡ f i 0 → y ≡ f i 1 → Paired s₀ out p f (set (set s at x) (at + 1) y) (at + 2) (i + 1)
+module _ {s₀ : List Float} {out p : ℕ} {f : ℕ → ℕ → Float} {s : List Float} {i : ℕ} (m : Paired s₀ out p f s i) where
+  pub paired-more : (x y : Float) → i < p → x ≡ f i 0 → y ≡ f i 1 → Paired s₀ out p f (set (set s (out + 2 * i) x) (out + 2 * i + 1) y) (i + 1)
   paired-more x y h ex ey =
-      let e : at ≡ out + length (grid f i 2) = omega (arith, length-grid f i 2) in
+      let e : out + 2 * i ≡ out + length (grid f i 2) = omega (arith, length-grid f i 2) in
       let two = put_two s₀ out (grid f i 2) (f i 0) (f i 1) in
       record {
         within = omega arith;
-        place = omega arith;
         long = simp (length-set, m.long);
         is = rw (m.is, e, ex, ey, two, row_more f i);
       }

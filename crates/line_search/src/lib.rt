@@ -13,13 +13,12 @@ pub fn faces(s: &mut [f64], out: usize, w: usize, u: usize, p: usize)
     requires { Faces s.old out w u p }
     ensures { s.new ≡ put s.old out (faces_of p (part s.old w p) (part s.old u p)) }
 {
-    let mut at = out;
     for i in 0..p {
         let x = s[w + i];
         let y = s[u + i];
+        let at = out + 2 * i;
         s[at] = x - y;
         s[at + 1] = -x - y;
-        at += 2;
     }
 }
 
@@ -28,11 +27,7 @@ pub fn largest(s: &[f64], a: usize, n: usize) -> f64
     requires { a + n ≤ length s.now }
     ensures { result ≡ largest_of n (part s.now a n) }
 {
-    let mut t = -1.0 / 0.0;
-    for i in 0..n {
-        t = maximum(s[a + i], t);
-    }
-    t
+    s[a..a + n].iter().fold(-1.0 / 0.0, |t, v| maximum(*v, t))
 }
 
 // The sum of ln(-f), in index order from +0: a NaN where an element is above 0.
@@ -40,14 +35,11 @@ pub fn sumlogneg(s: &[f64], a: usize, n: usize) -> f64
     requires { a + n ≤ length s.now }
     ensures { result ≡ sumlogneg_of n (part s.now a n) }
 {
-    let mut t = 0.0;
-    for i in 0..n {
-        t = t + ln(-s[a + i]);
-    }
-    t
+    s[a..a + n].iter().fold(0.0, |t, v| t + ln(-*v))
 }
 
 // The objective of the search, from its three sums.
+#[tactic(auto, unfolding(crate::specs::Search::phi_of))]
 pub fn phi(lambda: f64, t: f64, zz: f64, sumu: f64, logs: f64) -> f64
     ensures { result ≡ phi_of lambda t zz sumu logs }
 {
@@ -55,6 +47,7 @@ pub fn phi(lambda: f64, t: f64, zz: f64, sumu: f64, logs: f64) -> f64
 }
 
 // Whether phi decreases enough for the step s; a NaN does not.
+#[tactic(auto, unfolding(crate::specs::Search::decreases))]
 pub fn accepts(newphi: f64, phi: f64, s: f64, gdx: f64) -> bool
     ensures { result ≡ decreases newphi phi s gdx }
 {

@@ -57,10 +57,8 @@ fn diagonal(n: usize, a: &[f64], s: &mut [f64])
     ensures { s.new ≡ put s.old (7 * n) (diagonal_of n a.now) }
 {
     let out = 7 * n;
-    let mut at = 0usize;
     for i in 0..n {
-        s[out + i] = a[at];
-        at += n + 1;
+        s[out + i] = a[i * n + i];
     }
 }
 
@@ -112,15 +110,13 @@ fn rounds(n: usize, a: &[f64], bnrm: f64, tol: f64, limit: usize, s: &mut [f64])
 {
     let mut err = 0.0;
     let mut bkden = 0.0;
-    let mut iter = 1usize;
-    while iter < limit {
+    for iter in 1..limit {
         let t = turn(n, a, iter == 1, bkden, bnrm, tol, s);
         let Turned::More(e, d) = t else {
             return error_of(t);
         };
         err = e;
         bkden = d;
-        iter += 1;
     }
     err
 }

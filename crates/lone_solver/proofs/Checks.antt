@@ -1,24 +1,22 @@
 -- The refusals in their order: each where its test is the first that fails. Assumes nothing.
-use mathlib.Core.Path.{◌≡◌, refl, sym, ◌∙◌}
+use Rattle.refusal.specs.declared.Refusal.{Refusal}
+use Rattle.std.specs.Prelude.{Option, Result, ⊤, Ok, Err}
+use mathlib.Core.Path.{◌≡◌, sym, ◌∙◌}
 use mathlib.Core.Bool.{Bool, true, false, not, ◌&&◌}
-use mathlib.Core.List.{List, ◌++◌}
+use mathlib.Core.List.{List, ◌++◌, append_assoc}
 use Prim.Native.Nat.{ℕ, ◌+◌, ◌*◌, ◌≤◌, ◌<◌}
 use native.Mathlib.Nat.{zero-add}
 use lib.Dec.{leb, eqb}
-use lib.ListN.{length, length-append}
+use lib.ListN.{length}
 use lib.Ieee.{Float, le}
 use lib.Ieee.Scale.{finite}
 use borrow.Author.Tests.{leb-true, eqb-true, le-leb, lt-leb, eq-eqb, ne_eqb}
 use Rattle.arrays.specs.Sums.{plus0}
 use Rattle.arrays.specs.Scan.{first_infinite}
-use Rattle.arrays.specs.declared.scan.Found.{Found}
-use Rattle.arrays.specs.declared.scan.Found.TheVariants.{Clean, At}
 use Rattle.refusal.specs.declared.Refusal.TheVariants.{Size, Length, Setting, Scratch, NotFinite, Tolerance, NoRounds}
-use Rattle.refusal.specs.declared.Checked.{Checked}
-use Rattle.refusal.specs.declared.Checked.TheVariants.{Fine, Bad}
-use Rattle.refusal.specs.Checks.{ask, ask_values, found_at}
-use Rattle.refusal.proofs.Scanning.{or_else, further, scan-append, scan-from, FirstBad, AllFinite, scan-first, scan-clean}
-use Rattle.refusal.proofs.Asking.{refuted, known_by, both_true, ask-fine}
+use Rattle.refusal.specs.Checks.{ask, found_at}
+use Rattle.arrays.proofs.Scans.{FirstBad, AllFinite, scan-first, scan-clean}
+use Rattle.refusal.proofs.Asking.{then, values-last, values-more, refuted, known_by, both_true, ask-fine}
 use Rattle.lone_solver.specs.Solve.{valued, checked}
 
 -- ---- 1 to 4
@@ -83,19 +81,19 @@ pub settings-known : (tol : Float) (limit : ℕ) → Dec (Settled tol limit)
 settings-known tol limit = known_by (setting-of tol limit) (setting-good tol limit)
 
 module _ (n : ℕ) (a b x : List Float) (tol : Float) (limit room : ℕ) where
-  pub bad-size : (InSize n → ⊥) → checked n a b x tol limit room ≡ Bad Size
+  pub bad-size : (InSize n → ⊥) → checked n a b x tol limit room ≡ Err Size
   unfolding checked
   bad-size h = rw (refuted (size-test n) (λ p. h (size_of n p)))
 
-  pub bad-length : InSize n → (Lengths n a b x → ⊥) → checked n a b x tol limit room ≡ Bad Length
+  pub bad-length : InSize n → (Lengths n a b x → ⊥) → checked n a b x tol limit room ≡ Err Length
   unfolding checked
   bad-length z h = rw (size-good n z, refuted (length-test n a b x) (λ p. h (length-of n a b x p)))
 
-  pub bad-setting : InSize n → Lengths n a b x → (Settled tol limit → ⊥) → checked n a b x tol limit room ≡ Bad Setting
+  pub bad-setting : InSize n → Lengths n a b x → (Settled tol limit → ⊥) → checked n a b x tol limit room ≡ Err Setting
   unfolding checked
   bad-setting z l h = rw (size-good n z, length-good n a b x l, refuted (setting-test tol limit) (λ p. h (setting-of tol limit p)))
 
-  pub bad-scratch : InSize n → Lengths n a b x → Settled tol limit → room < 8 * n → checked n a b x tol limit room ≡ Bad Scratch
+  pub bad-scratch : InSize n → Lengths n a b x → Settled tol limit → room < 8 * n → checked n a b x tol limit room ≡ Err Scratch
   unfolding checked
   bad-scratch z l t h = rw (size-good n z, length-good n a b x l, setting-good tol limit t, lt-leb (8 * n) room h)
 
@@ -112,7 +110,7 @@ unfolding checked
 good-sizes {n} {a} {b} {x} {tol} {limit} {room} p =
     rw (size-good n p.sizes, length-good n a b x p.lengths, setting-good tol limit p.settings, le-leb (8 * n) room p.scratch)
 
-pub passed : {n : ℕ} {a b x : List Float} {tol : Float} {limit room : ℕ} (k : Checked) → k ≡ checked n a b x tol limit room → k ≡ Fine
+pub passed : {n : ℕ} {a b x : List Float} {tol : Float} {limit room : ℕ} (k : Result ⊤ Refusal) → k ≡ checked n a b x tol limit room → k ≡ Ok tt
     → Passed n a b x tol limit room
 unfolding checked
 passed {n} {a} {b} {x} {tol} {limit} k e f =
@@ -124,47 +122,38 @@ passed {n} {a} {b} {x} {tol} {limit} k e f =
 
 -- ---- 5, 8 and 10
 
--- by what the scans of the three find
+-- by the scans of the three, one after the other
 module _ (a b x : List Float) (tol : Float) (limit : ℕ) where
-  valued_by : (f g h : Found) → f ≡ first_infinite 0 a → g ≡ first_infinite 0 b → h ≡ first_infinite 0 x
-      → valued a b x tol limit
-      ≡ ask_values (or_else (or_else f (further (length a) g)) (further (length a + length b) h))
-      (ask (not (le tol plus0)) Tolerance (ask (not (eqb limit 0)) NoRounds Fine))
+  abbrev pub last-two : Result ⊤ Refusal
+  last-two = ask (not (le tol plus0)) Tolerance (ask (not (eqb limit 0)) NoRounds (Ok tt))
+
+  pub by-scans : valued a b x tol limit
+      ≡ then (found_at (first_infinite 0 a) 0) (then (found_at (first_infinite 0 b) (length a)) (then (found_at (first_infinite 0 x) (length a + length b)) last-two))
   unfolding valued
-  valued_by f g h ef eg eh =
-      rw (scan-append 0 (a ++ b) x, scan-append 0 a b, length-append a b, scan-from (length a + length b) x, scan-from (length a) b, ef, eg, eh)
-
-  pub in-matrix : (f : Found) (k : ℕ) → f ≡ first_infinite 0 a → f ≡ At k → found_at f 0 ≡ valued a b x tol limit
-  in-matrix f k e t = rw (valued_by f _ _ e refl refl, t, zero-add)
-
-  pub in_right : (f g : Found) (k from : ℕ) → f ≡ first_infinite 0 a → g ≡ first_infinite 0 b → f ≡ Clean → g ≡ At k → length a ≡ from
-      → found_at g from ≡ valued a b x tol limit
-  in_right f g k from ef eg cf t l = rw (valued_by f g _ ef eg refl, cf, t, l)
-
-  pub in_start : (f g h : Found) (k from : ℕ) → f ≡ first_infinite 0 a → g ≡ first_infinite 0 b → h ≡ first_infinite 0 x → f ≡ Clean → g ≡ Clean
-      → h ≡ At k → length a + length b ≡ from → found_at h from ≡ valued a b x tol limit
-  in_start f g h k from ef eg eh cf cg t l = rw (valued_by f g h ef eg eh, cf, cg, t, l)
+  by-scans =
+      rw (append_assoc a b x, values-more 0 a last-two (b ++ x), zero-add (length a), values-more (length a) b last-two x, values-last (length a + length b) x last-two)
 
   -- no value that is not finite
-  pub all-finite : (f g h : Found) → f ≡ first_infinite 0 a → g ≡ first_infinite 0 b → h ≡ first_infinite 0 x → f ≡ Clean → g ≡ Clean → h ≡ Clean
-      → valued a b x tol limit ≡ ask (not (le tol plus0)) Tolerance (ask (not (eqb limit 0)) NoRounds Fine)
-  all-finite f g h ef eg eh cf cg ch = rw (valued_by f g h ef eg eh, cf, cg, ch)
+  pub all-finite : (f g h : Option ℕ) (from further : ℕ) (u v w : ⊤) → f ≡ first_infinite 0 a → g ≡ first_infinite 0 b → h ≡ first_infinite 0 x
+      → length a ≡ from → length a + length b ≡ further → found_at f 0 ≡ Ok u → found_at g from ≡ Ok v → found_at h further ≡ Ok w
+      → valued a b x tol limit ≡ last-two
+  all-finite f g h from further u v w ef eg eh l k cf cg ch = rw (by-scans, ← ef, ← eg, ← eh, cf, k, l, cg, ch)
 
 -- by the elements of the three as one list
 module _ (a b x : List Float) (tol : Float) (limit : ℕ) where
-  pub bad-value : (i : ℕ) → FirstBad (a ++ b ++ x) i → valued a b x tol limit ≡ Bad (NotFinite i)
+  pub bad-value : (i : ℕ) → FirstBad (a ++ b ++ x) i → valued a b x tol limit ≡ Err (NotFinite i)
   unfolding valued
   bad-value i h = rw (scan-first (a ++ b ++ x) i h)
 
   module _ (h : AllFinite (a ++ b ++ x)) where
-    pub bad-tolerance : le tol plus0 ≡ true → valued a b x tol limit ≡ Bad Tolerance
+    pub bad-tolerance : le tol plus0 ≡ true → valued a b x tol limit ≡ Err Tolerance
     unfolding valued
     bad-tolerance t = rw (scan-clean (a ++ b ++ x) h, t)
 
-    pub bad-rounds : le tol plus0 ≡ false → limit ≡ 0 → valued a b x tol limit ≡ Bad NoRounds
+    pub bad-rounds : le tol plus0 ≡ false → limit ≡ 0 → valued a b x tol limit ≡ Err NoRounds
     unfolding valued
     bad-rounds t z = rw (scan-clean (a ++ b ++ x) h, t, z)
 
-    pub good-values : le tol plus0 ≡ false → (limit ≡ 0 → ⊥) → valued a b x tol limit ≡ Fine
+    pub good-values : le tol plus0 ≡ false → (limit ≡ 0 → ⊥) → valued a b x tol limit ≡ Ok tt
     unfolding valued
     good-values t z = rw (scan-clean (a ++ b ++ x) h, t, ne_eqb limit 0 z)

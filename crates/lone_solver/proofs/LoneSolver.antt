@@ -1,5 +1,6 @@
 -- What the contract of the lone solver's `solve` says: which refusal for which input, that the outcome is one, and what is left of the lent memory.
 -- Assumes nothing.
+use Rattle.std.specs.Prelude.{Result, ⊤, Ok, Err}
 use mathlib.Core.Path.{◌≡◌, refl, sym, ap, ◌∙◌}
 use mathlib.Core.Logic.{◌⊎◌, inl, inr}
 use mathlib.Core.Bool.{Bool, true, false}
@@ -15,28 +16,24 @@ use Rattle.arrays.specs.Vectors.{fill_of}
 use Rattle.arrays.proofs.Lengths.{length-fill}
 use Rattle.refusal.specs.declared.Refusal.{Refusal}
 use Rattle.refusal.specs.declared.Refusal.TheVariants.{Size, Length, Setting, Scratch, NotFinite, Tolerance, NoRounds}
-use Rattle.refusal.specs.declared.Checked.{Checked}
-use Rattle.refusal.specs.declared.Checked.TheVariants.{Fine, Bad}
-use Rattle.refusal.proofs.Scanning.{FirstBad, AllFinite, scan-known}
-use Rattle.lone_solver.specs.declared.Answer.{Answer}
-use Rattle.lone_solver.specs.declared.Answer.TheVariants.{Solved, Refused}
-use Rattle.lone_rounds.specs.Loop.{Result, Result.found, solved}
+use Rattle.arrays.proofs.Scans.{FirstBad, AllFinite, scan-known}
+use Rattle.lone_rounds.specs.Loop.{Result as Ended, Result.found, solved}
 use Rattle.lone_solver.specs.Solve.{Outcome, Outcome.outcome, by_check, checked, finished, solve_of, Said.refused, said}
 use Rattle.lone_solver.proofs.Checks.{InSize, Lengths, Settled, Passed, size-known, lengths-known, settings-known}
 use Rattle.lone_solver.proofs.Checks.{bad-size, bad-length, bad-setting, bad-scratch, good-sizes, bad-value, bad-tolerance, bad-rounds, good-values}
 
 -- the contract of `solve`, for all input: it answers r, and leaves x' and s'
-abbrev pub Solves : ℕ → List Float → List Float → List Float → Float → ℕ → List Float → Answer → List Float → List Float → Type 0
+abbrev pub Solves : ℕ → List Float → List Float → List Float → Float → ℕ → List Float → Result Float Refusal → List Float → List Float → Type 0
 Solves n a b x tol limit s r x' s' = outcome r x' s' ≡ solve_of n a b x tol limit s
 
-apart : {q : Refusal} {err : Float} → Refused q ≡ Solved err → ⊥
+apart : {q : Refusal} {err : Float} → Err q ≡ Ok err → ⊥
 apart h =
     let z : ◌≡◌ {A = ℕ} 0 1 = cc in
     omega arith
 
 -- ---- the outcome is one
 
-abbrev answer_in : Outcome → Answer
+abbrev answer_in : Outcome → Result Float Refusal
 answer_in (outcome r x s) = r
 
 abbrev solution_in : Outcome → List Float
@@ -46,7 +43,7 @@ abbrev scratch_in : Outcome → List Float
 scratch_in (outcome r x s) = s
 
 module _ (n : ℕ) (a b x : List Float) (tol : Float) (limit : ℕ) (s : List Float) where
-  pub outcomes-coincide : {r q : Answer} {x' x'' s' s'' : List Float} → Solves n a b x tol limit s r x' s' → Solves n a b x tol limit s q x'' s''
+  pub outcomes-coincide : {r q : Result Float Refusal} {x' x'' s' s'' : List Float} → Solves n a b x tol limit s r x' s' → Solves n a b x tol limit s q x'' s''
       → (r ≡ q) × (x' ≡ x'') × (s' ≡ s'')
   outcomes-coincide c d =
       let e = c ∙ sym d in
@@ -106,23 +103,23 @@ module _ (n : ℕ) (a b x : List Float) (tol : Float) (limit : ℕ) (s : List Fl
     sizes (yes z) = longs z (lengths-known n a b x)
     sizes (no z) = inr (1, 0, size z)
 
-  module _ {r : Answer} {x' s' : List Float} (c : Solves n a b x tol limit s r x' s') where
-    by-check : (k : Checked) → checked n a b x tol limit (length s) ≡ k → outcome r x' s' ≡ by_check k x s (finished n (solved n a b x tol limit) s)
+  module _ {r : Result Float Refusal} {x' s' : List Float} (c : Solves n a b x tol limit s r x' s') where
+    by-check : (k : Result ⊤ Refusal) → checked n a b x tol limit (length s) ≡ k → outcome r x' s' ≡ by_check k x s (finished n (solved n a b x tol limit) s)
     unfolding solve_of
-    by-check k e = c ∙ ap (λ (k : Checked). by_check k x s (finished n (solved n a b x tol limit) s)) e
+    by-check k e = c ∙ ap (λ (k : Result ⊤ Refusal). by_check k x s (finished n (solved n a b x tol limit) s)) e
 
-    bad-outcome : (q : Refusal) → checked n a b x tol limit (length s) ≡ Bad q → (r ≡ Refused q) × (x' ≡ x) × (s' ≡ s)
+    bad-outcome : (q : Refusal) → checked n a b x tol limit (length s) ≡ Err q → (r ≡ Err q) × (x' ≡ x) × (s' ≡ s)
     bad-outcome q e =
-        let f = by-check (Bad q) e in
+        let f = by-check (Err q) e in
         (ap answer_in f, ap solution_in f, ap scratch_in f)
 
-    fine-outcome : checked n a b x tol limit (length s) ≡ Fine
-        → (err : Float) × (r ≡ Solved err) × (found err x' ≡ solved n a b x tol limit) × (s' ≡ fill_of plus0 (8 * n) ++ drop (8 * n) s)
+    fine-outcome : checked n a b x tol limit (length s) ≡ Ok tt
+        → (err : Float) × (r ≡ Ok err) × (found err x' ≡ solved n a b x tol limit) × (s' ≡ fill_of plus0 (8 * n) ++ drop (8 * n) s)
     fine-outcome e = go (solved n a b x tol limit) refl where
-      go : (o : Result) → solved n a b x tol limit ≡ o
-          → (err : Float) × (r ≡ Solved err) × (found err x' ≡ solved n a b x tol limit) × (s' ≡ fill_of plus0 (8 * n) ++ drop (8 * n) s)
+      go : (o : Ended) → solved n a b x tol limit ≡ o
+          → (err : Float) × (r ≡ Ok err) × (found err x' ≡ solved n a b x tol limit) × (s' ≡ fill_of plus0 (8 * n) ++ drop (8 * n) s)
       go (found err y) q =
-          let f = rw q at (by-check Fine e) in
+          let f = rw q at (by-check (Ok tt) e) in
           (err, ap answer_in f, ap (found err) (ap solution_in f) ∙ sym q, ap scratch_in f)
 
     -- 01's number and place are those of the first refusal that holds
@@ -136,9 +133,9 @@ module _ (n : ℕ) (a b x : List Float) (tol : Float) (limit : ℕ) (s : List Fl
     first-refusal (rounds p v t z) = ap said (bad-outcome NoRounds (good-sizes p ∙ bad-rounds a b x tol limit v t z)).0
 
     -- where none holds, the error and the solution are those of solve_mut
-    pub solved-otherwise : ((k i : ℕ) → FirstRefusal k i → ⊥) → (err : Float) × (r ≡ Solved err) × (found err x' ≡ solved n a b x tol limit)
+    pub solved-otherwise : ((k i : ℕ) → FirstRefusal k i → ⊥) → (err : Float) × (r ≡ Ok err) × (found err x' ≡ solved n a b x tol limit)
     solved-otherwise none = go every-input where
-      go : Accepted ⊎ ((k : ℕ) × (i : ℕ) × FirstRefusal k i) → (err : Float) × (r ≡ Solved err) × (found err x' ≡ solved n a b x tol limit)
+      go : Accepted ⊎ ((k : ℕ) × (i : ℕ) × FirstRefusal k i) → (err : Float) × (r ≡ Ok err) × (found err x' ≡ solved n a b x tol limit)
       go (inl h) =
           let f = fine-outcome (good-sizes h.passed ∙ good-values a b x tol limit h.values h.tolerance h.rounds) in
           (f.0, f.1, f.2)
@@ -146,19 +143,19 @@ module _ (n : ℕ) (a b x : List Float) (tol : Float) (limit : ℕ) (s : List Fl
 
   -- ---- the lent memory
 
-  pub refused-writes-nothing : {q : Refusal} {x' s' : List Float} → Solves n a b x tol limit s (Refused q) x' s' → (x' ≡ x) × (s' ≡ s)
+  pub refused-writes-nothing : {q : Refusal} {x' s' : List Float} → Solves n a b x tol limit s (Err q) x' s' → (x' ≡ x) × (s' ≡ s)
   refused-writes-nothing {q} {x'} {s'} c = go (checked n a b x tol limit (length s)) refl where
-    go : (k : Checked) → checked n a b x tol limit (length s) ≡ k → (x' ≡ x) × (s' ≡ s)
-    go Fine e = absurd (apart (fine-outcome c e).1)
-    go (Bad p) e =
+    go : (k : Result ⊤ Refusal) → checked n a b x tol limit (length s) ≡ k → (x' ≡ x) × (s' ≡ s)
+    go (Ok tt) e = absurd (apart (fine-outcome c e).1)
+    go (Err p) e =
         let f = bad-outcome c p e in
         (f.1, f.2)
 
-  pub finished-scratch : {err : Float} {x' s' : List Float} → Solves n a b x tol limit s (Solved err) x' s'
+  pub finished-scratch : {err : Float} {x' s' : List Float} → Solves n a b x tol limit s (Ok err) x' s'
       → (take (8 * n) s' ≡ fill_of plus0 (8 * n)) × (drop (8 * n) s' ≡ drop (8 * n) s)
   finished-scratch {err} {x'} {s'} c = go (checked n a b x tol limit (length s)) refl where
-    go : (k : Checked) → checked n a b x tol limit (length s) ≡ k → (take (8 * n) s' ≡ fill_of plus0 (8 * n)) × (drop (8 * n) s' ≡ drop (8 * n) s)
-    go (Bad p) e = absurd (apart (sym (bad-outcome c p e).0))
-    go Fine e =
+    go : (k : Result ⊤ Refusal) → checked n a b x tol limit (length s) ≡ k → (take (8 * n) s' ≡ fill_of plus0 (8 * n)) × (drop (8 * n) s' ≡ drop (8 * n) s)
+    go (Err p) e = absurd (apart (sym (bad-outcome c p e).0))
+    go (Ok tt) e =
         let l = length-fill plus0 (8 * n) in
         rw (fine-outcome c e).3 (take_at (fill_of plus0 (8 * n)) (drop (8 * n) s) (8 * n) l, drop_at (fill_of plus0 (8 * n)) (drop (8 * n) s) (8 * n) l)

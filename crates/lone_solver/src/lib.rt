@@ -4,20 +4,16 @@
 ghost use Rattle.std.specs.Prelude.{◌≡◌, ◌*◌, ◌≤◌, length};
 ghost use Rattle.lone_solver.specs.Solve.{Outcome.outcome, checked, valued, solve_of};
 
-use arrays::scan::{Found, finite, first_infinite};
+use arrays::scan::{finite, first_infinite};
 use arrays::vectors::sweep;
 use lone_rounds::run;
 use numbers::bits::canonical;
-use refusal::{Checked, Refusal, at};
+use refusal::{Refusal, at};
 
-#[derive(Clone, Copy)]
-pub enum Answer {
-    Solved(f64),
-    Refused(Refusal),
-}
-
-// Solves a x = b in fewer than `limit` rounds, from the start in x, where it writes the solution; the scratch that it needs is +0 afterwards. A call that is
+// Solves a x = b in fewer than `limit` rounds, from the start in x, where it writes the solution; the scratch that it needs is +0 afterwards, and the error that
+// the solver ended with is the answer. A call that is
 // refused writes nothing. A NaN that is handed back has its one pattern. Total, for all input: it is `solve_of`.
+#[tactic(auto, unfolding(crate::specs::Solve::solve_of))]
 pub fn solve(
     n: usize,
     a: &[f64],
@@ -26,73 +22,57 @@ pub fn solve(
     tol: f64,
     limit: usize,
     s: &mut [f64],
-) -> Answer
+) -> Result<f64, Refusal>
     ensures { outcome result x.new s.new ≡ solve_of n a.now b.now x.old tol limit s.old }
 {
-    let c = check(n, a, b, x, tol, limit, s.len());
-    if let Checked::Bad(r) = c {
-        return Answer::Refused(r);
-    }
+    check(n, a, b, x, tol, limit, s.len())?;
     let err = run(n, a, b, x, tol, limit, s);
     sweep(x, 0, n);
-    Answer::Solved(canonical(err))
+    Ok(canonical(err))
 }
 
 // The first refusal that holds: 1 to 5, then 8 and 10.
-fn check(n: usize, a: &[f64], b: &[f64], x: &[f64], tol: f64, limit: usize, room: usize) -> Checked
+fn check(
+    n: usize,
+    a: &[f64],
+    b: &[f64],
+    x: &[f64],
+    tol: f64,
+    limit: usize,
+    room: usize,
+) -> Result<(), Refusal>
     ensures { result ≡ checked n a.now b.now x.now tol limit room }
 {
-    if n < 1 {
-        return Checked::Bad(Refusal::Size);
+    if n < 1 || n > 64 {
+        return Err(Refusal::Size);
     }
-    if n > 64 {
-        return Checked::Bad(Refusal::Size);
+    if a.len() != n * n || b.len() != n || x.len() != n {
+        return Err(Refusal::Length);
     }
-    if a.len() != n * n {
-        return Checked::Bad(Refusal::Length);
-    }
-    if b.len() != n {
-        return Checked::Bad(Refusal::Length);
-    }
-    if x.len() != n {
-        return Checked::Bad(Refusal::Length);
-    }
-    if limit > 5000 {
-        return Checked::Bad(Refusal::Setting);
-    }
-    if !finite(tol) {
-        return Checked::Bad(Refusal::Setting);
+    if limit > 5000 || !finite(tol) {
+        return Err(Refusal::Setting);
     }
     if room < 8 * n {
-        return Checked::Bad(Refusal::Scratch);
+        return Err(Refusal::Scratch);
     }
     values(n, a, b, x, tol, limit)
 }
 
 // Refusal 5 over a, b and x, with its place counted through all three; then 8, for a tolerance that is not above 0, and 10, for a limit of 0.
-fn values(n: usize, a: &[f64], b: &[f64], x: &[f64], tol: f64, limit: usize) -> Checked
+fn values(n: usize, a: &[f64], b: &[f64], x: &[f64], tol: f64, limit: usize) -> Result<(), Refusal>
     requires a_len { length a.now ≡ n * n }
     requires b_len { length b.now ≡ n }
     requires n_bound { n ≤ 64 }
     ensures { result ≡ valued a.now b.now x.now tol limit }
 {
-    let f = first_infinite(a);
-    let Found::Clean = f else {
-        return at(f, 0);
-    };
-    let f = first_infinite(b);
-    let Found::Clean = f else {
-        return at(f, n * n);
-    };
-    let f = first_infinite(x);
-    let Found::Clean = f else {
-        return at(f, n * n + n);
-    };
+    at(first_infinite(a), 0)?;
+    at(first_infinite(b), n * n)?;
+    at(first_infinite(x), n * n + n)?;
     if tol <= 0.0 {
-        return Checked::Bad(Refusal::Tolerance);
+        return Err(Refusal::Tolerance);
     }
     if limit == 0 {
-        return Checked::Bad(Refusal::NoRounds);
+        return Err(Refusal::NoRounds);
     }
-    Checked::Fine
+    Ok(())
 }

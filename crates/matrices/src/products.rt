@@ -6,66 +6,34 @@ ghost use Rattle.matrices.specs.Products.{rows_of, columns_of, column_product, T
 use arrays::sums::product;
 use several::{eight, put_eight};
 
-// The first 8 * e rows of the matrix at `mat` times the vector at v, eight at a time: one from each run of e rows. So eight sums go side by side, of which none
-// waits for another, and memory is read in eight streams.
-fn runs(s: &mut [f64], mat: usize, e: usize, cols: usize, v: usize, out: usize)
-    requires { Together s.old mat (8 * e * cols) v cols out (8 * e) }
-    ensures { s.new ≡ put s.old out (rows_of (part s.old mat (8 * e * cols)) (8 * e) cols (part s.old v cols)) }
-{
-    let apart = e * cols;
-    let mut at = mat;
-    for i in 0..e {
-        let t = eight(s, at, apart, s, v, cols);
-        put_eight(s, out + i, e, t);
-        at += cols;
-    }
-}
-
-// The matrix at `mat` times the vector at v: eight rows at a time, then the remaining ones.
+// The matrix at `mat` times the vector at v: eight rows at a time, one from each run of e rows, then the remaining ones. So eight sums go side by side, of which
+// none waits for another, and memory is read in eight streams.
 pub fn rows(s: &mut [f64], mat: usize, rows: usize, cols: usize, v: usize, out: usize)
     requires { Together s.old mat (rows * cols) v cols out rows }
     ensures { s.new ≡ put s.old out (rows_of (part s.old mat (rows * cols)) rows cols (part s.old v cols)) }
 {
     let e = rows / 8;
-    runs(s, mat, e, cols, v, out);
-    let mut i = 8 * e;
-    let mut at = mat + i * cols;
-    while i < rows {
-        let t = product(s, at, s, v, cols);
-        s[out + i] = t;
-        at += cols;
-        i += 1;
-    }
-}
-
-// As `runs`, with the matrix in a slice of its own.
-fn runs_of(m: &[f64], e: usize, cols: usize, s: &mut [f64], v: usize, out: usize)
-    requires { Beside m.now (8 * e * cols) s.old v cols out (8 * e) }
-    ensures { s.new ≡ put s.old out (rows_of m.now (8 * e) cols (part s.old v cols)) }
-{
-    let apart = e * cols;
-    let mut at = 0usize;
     for i in 0..e {
-        let t = eight(m, at, apart, s, v, cols);
+        let t = eight(s, mat + i * cols, e * cols, s, v, cols);
         put_eight(s, out + i, e, t);
-        at += cols;
+    }
+    for i in 8 * e..rows {
+        s[out + i] = product(s, mat + i * cols, s, v, cols);
     }
 }
 
-// A matrix in a slice of its own times the vector at v: eight rows at a time, then the remaining ones.
+// The same of a matrix in a slice of its own.
 pub fn rows_of(m: &[f64], rows: usize, cols: usize, s: &mut [f64], v: usize, out: usize)
     requires { Beside m.now (rows * cols) s.old v cols out rows }
     ensures { s.new ≡ put s.old out (rows_of m.now rows cols (part s.old v cols)) }
 {
     let e = rows / 8;
-    runs_of(m, e, cols, s, v, out);
-    let mut i = 8 * e;
-    let mut at = i * cols;
-    while i < rows {
-        let t = product(m, at, s, v, cols);
-        s[out + i] = t;
-        at += cols;
-        i += 1;
+    for i in 0..e {
+        let t = eight(m, i * cols, e * cols, s, v, cols);
+        put_eight(s, out + i, e, t);
+    }
+    for i in 8 * e..rows {
+        s[out + i] = product(m, i * cols, s, v, cols);
     }
 }
 
@@ -77,12 +45,8 @@ pub fn column_product(m: &[f64], rows: usize, cols: usize, j: usize, s: &[f64], 
     ensures { result ≡ column_product m.now rows cols (part s.now v rows) j }
 {
     let mut t = 0.0;
-    let mut at = j;
-    let mut i = 0usize;
-    while i < rows {
-        t = t + m[at] * s[v + i];
-        at += cols;
-        i += 1;
+    for i in 0..rows {
+        t += m[i * cols + j] * s[v + i];
     }
     t
 }
@@ -95,13 +59,12 @@ fn eight_columns(m: &[f64], rows: usize, cols: usize, j: usize, s: &[f64], v: us
     ensures { result ≡ tab (λ k. column_product m.now rows cols (part s.now v rows) (j + k)) 8 }
 {
     let mut t = [0.0; 8];
-    let mut at = j;
     for i in 0..rows {
+        let at = i * cols + j;
         let x = s[v + i];
         for k in 0..8 {
-            t[k] = t[k] + m[at + k] * x;
+            t[k] += m[at + k] * x;
         }
-        at += cols;
     }
     t
 }
@@ -111,15 +74,12 @@ pub fn columns_of(m: &[f64], rows: usize, cols: usize, s: &mut [f64], v: usize, 
     requires { Beside m.now (rows * cols) s.old v rows out cols }
     ensures { s.new ≡ put s.old out (columns_of m.now rows cols (part s.old v rows)) }
 {
-    let mut j = 0usize;
-    while 8 <= cols - j {
-        let t = eight_columns(m, rows, cols, j, s, v);
-        put_eight(s, out + j, 1, t);
-        j += 8;
+    let e = cols / 8;
+    for i in 0..e {
+        let t = eight_columns(m, rows, cols, 8 * i, s, v);
+        put_eight(s, out + 8 * i, 1, t);
     }
-    while j < cols {
-        let t = column_product(m, rows, cols, j, s, v);
-        s[out + j] = t;
-        j += 1;
+    for j in 8 * e..cols {
+        s[out + j] = column_product(m, rows, cols, j, s, v);
     }
 }

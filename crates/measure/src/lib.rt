@@ -2,20 +2,18 @@
 // wrong and nothing was done.
 #![tactic(auto)]
 
-ghost use Rattle.layout.specs.Slots.{Room};
-ghost use Rattle.design_products.specs.Mode.{Held};
-ghost use Rattle.measure.specs.Measure.{Lent};
+ghost use Rattle.std.specs.Prelude.{◌≡◌, ◌+◌, ◌*◌, length};
+ghost use Rattle.layout.specs.Slots.{HasRoom};
 
-use arrays::scan::Found;
 use arrays::vectors::copy_from;
 use bg_solver::shared::Turned;
 use c_values::{SETTINGS_WORDS, settings_from};
 use checks::limits;
 use design::statistics::{first_constant, statistics};
 use design_products::{matvec, transposed};
-use layout::{Places, Sizes, need, place, sizes_of};
-use refusal::Checked;
-use settings::{Terms, terms_of};
+use layout::fit::Fit;
+use layout::{Sizes, need, place};
+use settings::{Settings, Terms};
 
 // The solver inside a fit: its first lines, and `count` rounds. `given` has d1, d2, prb, prs, dxu and grad, in the order of the scratch.
 pub fn measure_round(
@@ -26,54 +24,87 @@ pub fn measure_round(
     count: usize,
     s: &mut [f64],
 ) -> usize {
-    if p < 1 {
+    if p < 1 || p > 64 || gram.len() != p * p || given.len() != 8 * p {
         return 0;
     }
-    if p > 64 {
-        return 0;
-    }
-    if gram.len() != p * p {
-        return 0;
-    }
-    if given.len() != 8 * p {
-        return 0;
-    }
-    let sh = Sizes {
-        n: 1,
-        p: p,
-        k: p + 1,
+    // The solver reads neither matrix, panels nor terms: these are of a fit without rows, whose panels have a word each.
+    let sizes = Sizes {
+        n: 0,
+        p,
+        k: p,
         lazy: true,
         stored: 0,
-        pr: 0,
-        pc: 0,
+        pr: 1,
+        pc: 1,
     };
-    if s.len() < need(sh) {
+    // What a fit of one row needs without its panels is a word more.
+    if s.len() <= need(sizes) {
         return 0;
     }
-    let l = place(sh);
-    copy_from(s, l.gram, gram, 0, p * p);
-    copy_from(s, l.d1, given, 0, 8 * p);
-    rounds(s, sh, l, tol, count);
-    l.dxu
+    let fit = Fit {
+        matrix: gram,
+        sizes,
+        places: place(sizes),
+        terms: Terms {
+            gamma: 0.0,
+            padding: 0.0,
+            lambda: 0.0,
+        },
+        normalise: true,
+        tol,
+        limit: 0,
+    };
+    copy_from(s, fit.places.gram, gram, 0, p * p);
+    copy_from(s, fit.places.d1, given, 0, 8 * p);
+    rounds(&fit, s, count);
+    fit.places.dxu
 }
 
-fn rounds(s: &mut [f64], sh: Sizes, l: Places, tol: f64, count: usize)
-    requires { Room sh l s.old }
+fn rounds(fit: &Fit, s: &mut [f64], count: usize)
+    requires { HasRoom fit.now.sizes s.old }
 {
-    let bnrm = inner_solver::begin(s, sh, l);
+    let bnrm = inner_solver::begin(fit, s);
     let mut bkden = 0.0;
-    let mut i = 0usize;
-    while i < count {
-        let turned = inner_solver::turn(s, sh, l, i == 0, bkden, bnrm, tol);
+    for i in 0..count {
+        let turned = inner_solver::turn(fit, s, i == 0, bkden, bnrm, fit.tol);
         let Turned::More(_, next) = turned else {
             return;
         };
         bkden = next;
-        i += 1;
     }
 }
 
-// A piece of the work of a fit that normalises, whatever its settings say, and stores its design or not; `piece` says which, and what `given` is. What is lent is
+// What of a fit's work is repeated, and in brackets its number.
+#[derive(Clone, Copy)]
+enum Piece {
+    // (0) statistics, reciprocals and the two vectors of `given`, of p and of n + p, in their slots
+    Ready,
+    // (1) the statistics again, with the scan for a constant column
+    Statistics,
+    // (2)
+    StoredDesign,
+    // (3)
+    Gram,
+    // (4) the design times the first vector
+    Product,
+    // (5, and any other) the transposed design times the second
+    Transposed,
+}
+
+impl From<usize> for Piece {
+    fn from(number: usize) -> Piece {
+        match number {
+            0 => Piece::Ready,
+            1 => Piece::Statistics,
+            2 => Piece::StoredDesign,
+            3 => Piece::Gram,
+            4 => Piece::Product,
+            _ => Piece::Transposed,
+        }
+    }
+}
+
+// A piece of the work of a fit that normalises, whatever its settings say, and stores its design or not; `what` says which, and what `given` is. What is lent is
 // checked as a start's is.
 pub fn measure_piece(
     what: usize,
@@ -88,104 +119,92 @@ pub fn measure_piece(
     if settings.len() != SETTINGS_WORDS {
         return 0;
     }
-    let st = settings_from(settings);
-    let c = limits(n, p, m.len(), n, p, st, s.len());
-    let Checked::Fine = c else {
+    let st = Settings {
+        normalise: true,
+        ..settings_from(settings)
+    };
+    let Ok(()) = limits(n, p, m.len(), n, p, st, s.len()) else {
         return 0;
     };
     if given.len() != n + 2 * p {
         return 0;
     }
-    let sh = sizes_of(n, p, st);
-    let l = place(sh);
-    let t = terms_of(st, n);
-    repeat(what, m, given, sh, t, s, l, count)
+    let fit = Fit::new(m, n, p, st);
+    repeat(&fit, Piece::from(what), given, s, count)
 }
 
-fn repeat(
-    what: usize,
-    m: &[f64],
-    given: &[f64],
-    sh: Sizes,
-    t: Terms,
-    s: &mut [f64],
-    l: Places,
-    count: usize,
-) -> usize
-    requires { Lent sh l m.now given.now s.old }
+fn repeat(fit: &Fit, piece: Piece, given: &[f64], s: &mut [f64], count: usize) -> usize
+    requires room { HasRoom fit.now.sizes s.old }
+    requires vectors { length given.now ≡ fit.now.sizes.n + 2 * fit.now.sizes.p }
 {
-    let mut at = 0usize;
-    for i in 0..count {
-        at = piece(what, m, given, sh, t, s, l);
+    let mut at = 0;
+    for _ in 0..count {
+        at = worked(fit, piece, given, s);
     }
     at
 }
 
-// 0 makes ready: statistics, reciprocals and the two vectors of `given`, of p and of n + p, in their slots. 1 is the statistics again, with the scan for a
-// constant column; 2 the stored design; 3 the Gram; 4 the design times the first vector; 5 the transposed design times the second.
-fn piece(
-    what: usize,
-    m: &[f64],
-    given: &[f64],
-    sh: Sizes,
-    t: Terms,
-    s: &mut [f64],
-    l: Places,
-) -> usize
-    requires { Lent sh l m.now given.now s.old }
+fn worked(fit: &Fit, piece: Piece, given: &[f64], s: &mut [f64]) -> usize
+    requires room { HasRoom fit.now.sizes s.old }
+    requires vectors { length given.now ≡ fit.now.sizes.n + 2 * fit.now.sizes.p }
 {
-    if what == 0 {
-        ready(m, given, sh, s, l);
-        return l.centre;
+    let l = fit.places;
+    match piece {
+        Piece::Ready => {
+            ready(fit, given, s);
+            l.centre
+        }
+        Piece::Statistics => {
+            if first_constant(fit.matrix, fit.sizes.n, fit.sizes.p).is_some() {
+                return 0;
+            }
+            statistics(fit.matrix, fit.sizes, fit.normalise, s, l);
+            l.centre
+        }
+        Piece::StoredDesign => stored(fit, s),
+        Piece::Gram => gram(fit, s),
+        Piece::Product => {
+            matvec(fit, s, l.w, l.z);
+            l.z
+        }
+        Piece::Transposed => {
+            transposed(fit, s, l.nu, l.xnu);
+            l.xnu
+        }
     }
-    if what == 1 {
-        let Found::Clean = first_constant(m, sh.n, sh.p) else {
-            return 0;
-        };
-        statistics(m, sh, true, s, l);
-        return l.centre;
-    }
-    if what == 2 {
-        return stored(m, sh, t, s, l);
-    }
-    if what == 3 {
-        return gram(m, given, sh, t, s, l);
-    }
-    if what == 4 {
-        matvec(m, sh, t, s, l, l.w, l.z);
-        return l.z;
-    }
-    transposed(m, sh, t, s, l, l.nu, l.xnu);
-    l.xnu
 }
 
-fn ready(m: &[f64], given: &[f64], sh: Sizes, s: &mut [f64], l: Places)
-    requires { Lent sh l m.now given.now s.old }
+fn ready(fit: &Fit, given: &[f64], s: &mut [f64])
+    requires room { HasRoom fit.now.sizes s.old }
+    requires vectors { length given.now ≡ fit.now.sizes.n + 2 * fit.now.sizes.p }
 {
-    statistics(m, sh, true, s, l);
-    lazy_normalization::reciprocals(s, sh, l);
-    copy_from(s, l.w, given, 0, sh.p);
-    copy_from(s, l.nu, given, sh.p, sh.k);
+    let l = fit.places;
+    statistics(fit.matrix, fit.sizes, fit.normalise, s, l);
+    lazy_normalization::reciprocals(s, fit.sizes, l);
+    copy_from(s, l.w, given, 0, fit.sizes.p);
+    copy_from(s, l.nu, given, fit.sizes.p, fit.sizes.k);
 }
 
 // Not where nothing is stored.
-fn stored(m: &[f64], sh: Sizes, t: Terms, s: &mut [f64], l: Places) -> usize
-    requires { Held sh l m.now s.old }
+fn stored(fit: &Fit, s: &mut [f64]) -> usize
+    requires { HasRoom fit.now.sizes s.old }
 {
-    if sh.lazy {
+    let l = fit.places;
+    if fit.sizes.lazy {
         return 0;
     }
-    design::eager::augment(m, sh, true, t, s, l);
+    design::eager::augment(fit.matrix, fit.sizes, fit.normalise, fit.terms, s, l);
     l.design
 }
 
-fn gram(m: &[f64], given: &[f64], sh: Sizes, t: Terms, s: &mut [f64], l: Places) -> usize
-    requires { Lent sh l m.now given.now s.old }
+fn gram(fit: &Fit, s: &mut [f64]) -> usize
+    requires { HasRoom fit.now.sizes s.old }
 {
-    if sh.lazy {
-        lazy_gram::gram(m, sh, t, s, l);
+    let l = fit.places;
+    if fit.sizes.lazy {
+        lazy_gram::gram(fit.matrix, fit.sizes, fit.terms, s, l);
         return l.gram;
     }
-    eager_gram::gram(sh, s, l);
+    eager_gram::gram(fit.sizes, s, l);
     l.gram
 }

@@ -1,6 +1,6 @@
 -- The Newton terms of a round, in lasso_optimizer.rs's order, of weights w, bounds u, gradphi, which is x'z (g1_of doubles it), and the barrier's weight t.
 -- Definitions only.
-use Rattle.std.specs.Prelude.{Bool, cond, List, ◌++◌, ℕ, ◌+◌, ◌≤◌, length, Float}
+use Rattle.std.specs.Prelude.{◌≡◌, Bool, cond, List, ◌++◌, ℕ, ◌+◌, ◌≤◌, length, Float}
 use Rattle.std.specs.Float.Ieee.{neg, le}
 use Rattle.numbers.specs.Ops.{◌⊕◌, ◌⊖◌, ◌⊗◌, ◌⊘◌, f64}
 use Rattle.numbers.specs.Order.{maximum_of, minimum_of}
@@ -73,3 +73,10 @@ pub record Three (s : List Float) (out a b c n : ℕ) : Type 0 where
   pub clear : Clear out a n
   pub clear2 : Clear out b n
   pub clear3 : Clear out c n
+
+unfoldable pub zip3_of : (Float → Float → Float → Float) → ℕ → List Float → List Float → List Float → List Float
+zip3_of g n xs ys zs = tab (λ i. g (xs ! i) (ys ! i) (zs ! i)) n
+
+-- h is what a closure of three computes: `post` holds of what a call may return
+abbrev pub GivesOfThree : (Float → Float → Float → Float → Type 0) → (Float → Float → Float → Float) → Type 0
+GivesOfThree post h = (x y z r : Float) → post x y z r → r ≡ h x y z

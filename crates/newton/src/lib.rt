@@ -5,12 +5,14 @@ ghost use Rattle.std.specs.Prelude.{◌≡◌, ◌<◌, ◌^◌, Float};
 ghost use Rattle.std.specs.Float.Ieee.{neg};
 ghost use Rattle.arrays.specs.Part.{part, put};
 ghost use Rattle.arrays.specs.Vectors.{map_of, zip_of, One, Two};
-ghost use Rattle.newton.specs.Newton.{start_t, next_t, over_sum, over_difference, sum_of_squares, difference_of_squares, g1_of, g2_at, prb_at, prs_of, tolerance, Three};
+ghost use Rattle.newton.specs.Newton.{start_t, next_t, over_sum, over_difference, sum_of_squares, difference_of_squares, g1_of, g2_at, prb_at, prs_of, tolerance, zip3_of, Three, GivesOfThree};
 
 use arrays::sums::float_of;
+use arrays::vectors::{map, zip};
 use numbers::order::{maximum, minimum};
 
 // The barrier's first weight: 1 / lambda, but at least 1 and at most 2 p / 0.001.
+#[tactic(auto, unfolding(crate::specs::Newton::start_t))]
 pub fn first_t(p: usize, lambda: f64) -> f64
     requires { p < 2 ^ 32 }
     ensures { result ≡ start_t p lambda }
@@ -19,6 +21,7 @@ pub fn first_t(p: usize, lambda: f64) -> f64
 }
 
 // Where the last step was at least a half, t by the gap: never below what it was, and at most twice that. Else, and where the step is a NaN, as it was.
+#[tactic(auto, unfolding(crate::specs::Newton::next_t))]
 pub fn next_t(p: usize, s: f64, gap: f64, t: f64) -> f64
     requires { p < 2 ^ 32 }
     ensures { result ≡ next_t p s gap t }
@@ -29,14 +32,32 @@ pub fn next_t(p: usize, s: f64, gap: f64, t: f64) -> f64
     t
 }
 
+// One vector made of three: each element of it is what f returns at those of a, b and c.
+fn zip3<F: Fn(f64, f64, f64) -> f64>(
+    s: &mut [f64],
+    out: usize,
+    a: usize,
+    b: usize,
+    c: usize,
+    n: usize,
+    f: F,
+)
+    requires places { Three s.old out a b c n }
+    requires callable { F.IsAlwaysCallable f }
+    ensures { (h : Float → Float → Float → Float) → GivesOfThree (F.post f) h
+        → s.new ≡ put s.old out (zip3_of h n (part s.old a n) (part s.old b n) (part s.old c n)) }
+{
+    for i in 0..n {
+        s[out + i] = f(s[a + i], s[b + i], s[c + i]);
+    }
+}
+
 // 1 / (u + w)
 pub fn over_sum(s: &mut [f64], out: usize, u: usize, w: usize, p: usize)
     requires { Two s.old out u w p }
     ensures { s.new ≡ put s.old out (zip_of over_sum p (part s.old u p) (part s.old w p)) }
 {
-    for i in 0..p {
-        s[out + i] = 1.0 / (s[u + i] + s[w + i]);
-    }
+    zip(s, out, u, w, p, |a, b| 1.0 / (a + b));
 }
 
 // 1 / (u - w)
@@ -44,9 +65,7 @@ pub fn over_difference(s: &mut [f64], out: usize, u: usize, w: usize, p: usize)
     requires { Two s.old out u w p }
     ensures { s.new ≡ put s.old out (zip_of over_difference p (part s.old u p) (part s.old w p)) }
 {
-    for i in 0..p {
-        s[out + i] = 1.0 / (s[u + i] - s[w + i]);
-    }
+    zip(s, out, u, w, p, |a, b| 1.0 / (a - b));
 }
 
 // (a² + b²) / t
@@ -54,11 +73,7 @@ pub fn sum_of_squares(s: &mut [f64], out: usize, a: usize, b: usize, t: f64, p: 
     requires { Two s.old out a b p }
     ensures { s.new ≡ put s.old out (zip_of (sum_of_squares t) p (part s.old a p) (part s.old b p)) }
 {
-    for i in 0..p {
-        let x = s[a + i];
-        let y = s[b + i];
-        s[out + i] = (x * x + y * y) / t;
-    }
+    zip(s, out, a, b, p, |x, y| (x * x + y * y) / t);
 }
 
 // (a² - b²) / t
@@ -66,11 +81,7 @@ pub fn difference_of_squares(s: &mut [f64], out: usize, a: usize, b: usize, t: f
     requires { Two s.old out a b p }
     ensures { s.new ≡ put s.old out (zip_of (difference_of_squares t) p (part s.old a p) (part s.old b p)) }
 {
-    for i in 0..p {
-        let x = s[a + i];
-        let y = s[b + i];
-        s[out + i] = (x * x - y * y) / t;
-    }
+    zip(s, out, a, b, p, |x, y| (x * x - y * y) / t);
 }
 
 // g1, in the place of gradphi.
@@ -79,18 +90,22 @@ pub fn g1(s: &mut [f64], gradphi: usize, q1: usize, q2: usize, t: f64, p: usize)
     ensures { s.new
         ≡ put s.old gradphi (g1_of p t (part s.old gradphi p) (part s.old q1 p) (part s.old q2 p)) }
 {
-    for i in 0..p {
-        s[gradphi + i] = 2.0 * s[gradphi + i] - (s[q1 + i] - s[q2 + i]) / t;
-    }
+    zip3(
+        s,
+        gradphi,
+        gradphi,
+        q1,
+        q2,
+        p,
+        |v, a, b| 2.0 * v - (a - b) / t,
+    );
 }
 
 pub fn negated(s: &mut [f64], out: usize, a: usize, p: usize)
     requires { One s.old out a p }
     ensures { s.new ≡ put s.old out (map_of neg p (part s.old a p)) }
 {
-    for i in 0..p {
-        s[out + i] = -s[a + i];
-    }
+    map(s, out, a, p, |v| -v);
 }
 
 // -g2
@@ -99,9 +114,7 @@ pub fn negated_g2(s: &mut [f64], out: usize, q1: usize, q2: usize, lambda: f64, 
     ensures { s.new
         ≡ put s.old out (zip_of (λ (a b : Float). neg (g2_at lambda t a b)) p (part s.old q1 p) (part s.old q2 p)) }
 {
-    for i in 0..p {
-        s[out + i] = -(lambda - (s[q1 + i] + s[q2 + i]) / t);
-    }
+    zip(s, out, q1, q2, p, |a, b| -(lambda - (a + b) / t));
 }
 
 // 2 + d1
@@ -109,9 +122,7 @@ pub fn prb(s: &mut [f64], out: usize, d1: usize, p: usize)
     requires { One s.old out d1 p }
     ensures { s.new ≡ put s.old out (map_of prb_at p (part s.old d1 p)) }
 {
-    for i in 0..p {
-        s[out + i] = 2.0 + s[d1 + i];
-    }
+    map(s, out, d1, p, |v| 2.0 + v);
 }
 
 // prb * d1 - d2²
@@ -120,12 +131,11 @@ pub fn prs(s: &mut [f64], out: usize, prb: usize, d1: usize, d2: usize, p: usize
     ensures { s.new
         ≡ put s.old out (prs_of p (part s.old prb p) (part s.old d1 p) (part s.old d2 p)) }
 {
-    for i in 0..p {
-        s[out + i] = s[prb + i] * s[d1 + i] - s[d2 + i] * s[d2 + i];
-    }
+    zip3(s, out, prb, d1, d2, p, |v, a, b| v * a - b * b);
 }
 
 // The solver's tolerance, from the gap and the gradient's norm, 0.1 at most. `later` takes a tenth: a round was made and no solve has missed its tolerance.
+#[tactic(auto, unfolding(crate::specs::Newton::tolerance))]
 pub fn solver_tolerance(later: bool, gap: f64, normg: f64) -> f64
     ensures { result ≡ tolerance later gap normg }
 {

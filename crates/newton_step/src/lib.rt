@@ -3,67 +3,71 @@
 
 ghost use Rattle.std.specs.Prelude.{◌≡◌};
 ghost use Rattle.arrays.specs.Part.{part, put};
-ghost use Rattle.design_products.specs.Mode.{transposed_of, Held};
-ghost use Rattle.layout.specs.Slots.{Room, vars, Makes};
+ghost use Rattle.design_products.specs.Mode.{transposed_of};
+ghost use Rattle.layout.specs.Slots.{HasRoom, vars, Makes};
 ghost use Rattle.lasso_optimizer.specs.Gradphi.{Gradphi};
 ghost use Rattle.lasso_optimizer.specs.Opening.{barrier_store, gradient_store, preconditioner_store, newton_store};
 
 use arrays::vectors::copy_from;
-use layout::{Places, Sizes};
+use layout::fit::Fit;
 use newton::{
     difference_of_squares, g1, negated, negated_g2, over_difference, over_sum, prb, prs,
     sum_of_squares,
 };
-use settings::Terms;
 
 // q1, q2, d1 and d2.
-fn barrier(s: &mut [f64], sh: Sizes, l: Places, t: f64)
-    requires { Room sh l s.old }
-    ensures { Makes sh (barrier_store sh t) s.old s.new }
+fn barrier(fit: &Fit, s: &mut [f64], t: f64)
+    requires { HasRoom fit.now.sizes s.old }
+    ensures { Makes fit.now.sizes (barrier_store fit.now.sizes t) s.old s.new }
 {
-    over_sum(s, l.q1, l.u, l.w, sh.p);
-    over_difference(s, l.q2, l.u, l.w, sh.p);
-    sum_of_squares(s, l.d1, l.q1, l.q2, t, sh.p);
-    difference_of_squares(s, l.d2, l.q1, l.q2, t, sh.p);
+    let l = fit.places;
+    over_sum(s, l.q1, l.u, l.w, fit.sizes.p);
+    over_difference(s, l.q2, l.u, l.w, fit.sizes.p);
+    sum_of_squares(s, l.d1, l.q1, l.q2, t, fit.sizes.p);
+    difference_of_squares(s, l.d2, l.q1, l.q2, t, fit.sizes.p);
 }
 
-// gradphi, in the place of xnu: g, so that the design is not read again. Of the matrix and the terms only the promise speaks.
-fn gradphi(m: &[f64], sh: Sizes, tm: Terms, s: &mut [f64], l: Places, g: [f64; 64])
-    requires held { Held sh l m.now s.old }
-    requires gradphi { Gradphi sh tm m.now (vars sh s.old) g }
-    ensures { s.new
-        ≡ put s.old l.xnu (transposed_of sh tm m.now (vars sh s.old) (part s.old l.z sh.k)) }
+// gradphi, in the place of xnu: g, so that the design is not read again.
+fn gradphi(fit: &Fit, s: &mut [f64], g: [f64; 64])
+    requires room { HasRoom fit.now.sizes s.old }
+    requires gradphi { let f = fit.now in Gradphi f.sizes f.terms f.matrix.now (vars f.sizes s.old) g }
+    ensures { let f = fit.now in s.new ≡ put s.old f.places.xnu
+        (transposed_of f.sizes f.terms f.matrix.now (vars f.sizes s.old) (part s.old f.places.z f.sizes.k)) }
 {
-    copy_from(s, l.xnu, &g, 0, sh.p);
+    let l = fit.places;
+    copy_from(s, l.xnu, &g, 0, fit.sizes.p);
 }
 
 // gradphi and then g1 in the place of xnu, and grad.
-fn gradient(m: &[f64], sh: Sizes, tm: Terms, s: &mut [f64], l: Places, t: f64, g: [f64; 64])
-    requires held { Held sh l m.now s.old }
-    requires gradphi { Gradphi sh tm m.now (vars sh s.old) g }
-    ensures { Makes sh (gradient_store sh tm m.now t) s.old s.new }
+fn gradient(fit: &Fit, s: &mut [f64], t: f64, g: [f64; 64])
+    requires room { HasRoom fit.now.sizes s.old }
+    requires gradphi { let f = fit.now in Gradphi f.sizes f.terms f.matrix.now (vars f.sizes s.old) g }
+    ensures { let f = fit.now in Makes f.sizes (gradient_store f.sizes f.terms f.matrix.now t) s.old s.new }
 {
-    gradphi(m, sh, tm, s, l, g);
-    g1(s, l.xnu, l.q1, l.q2, t, sh.p);
-    negated(s, l.grad, l.xnu, sh.p);
-    negated_g2(s, l.grad + sh.p, l.q1, l.q2, tm.lambda, t, sh.p);
+    let l = fit.places;
+    gradphi(fit, s, g);
+    g1(s, l.xnu, l.q1, l.q2, t, fit.sizes.p);
+    negated(s, l.grad, l.xnu, fit.sizes.p);
+    let high = l.grad + fit.sizes.p;
+    negated_g2(s, high, l.q1, l.q2, fit.terms.lambda, t, fit.sizes.p);
 }
 
-fn preconditioner(s: &mut [f64], sh: Sizes, l: Places)
-    requires { Room sh l s.old }
-    ensures { Makes sh (preconditioner_store sh) s.old s.new }
+fn preconditioner(fit: &Fit, s: &mut [f64])
+    requires { HasRoom fit.now.sizes s.old }
+    ensures { Makes fit.now.sizes (preconditioner_store fit.now.sizes) s.old s.new }
 {
-    prb(s, l.prb, l.d1, sh.p);
-    prs(s, l.prs, l.prb, l.d1, l.d2, sh.p);
+    let l = fit.places;
+    prb(s, l.prb, l.d1, fit.sizes.p);
+    prs(s, l.prs, l.prb, l.d1, l.d2, fit.sizes.p);
 }
 
 // All that the solver reads besides the Gram and its start: the terms of the barrier, the gradient and the preconditioner. g is what the gap part answered.
-pub fn newton_terms(m: &[f64], sh: Sizes, tm: Terms, s: &mut [f64], l: Places, t: f64, g: [f64; 64])
-    requires held { Held sh l m.now s.old }
-    requires gradphi { Gradphi sh tm m.now (vars sh s.old) g }
-    ensures { Makes sh (newton_store sh tm m.now t) s.old s.new }
+pub fn newton_terms(fit: &Fit, s: &mut [f64], t: f64, g: [f64; 64])
+    requires room { HasRoom fit.now.sizes s.old }
+    requires gradphi { let f = fit.now in Gradphi f.sizes f.terms f.matrix.now (vars f.sizes s.old) g }
+    ensures { let f = fit.now in Makes f.sizes (newton_store f.sizes f.terms f.matrix.now t) s.old s.new }
 {
-    barrier(s, sh, l, t);
-    gradient(m, sh, tm, s, l, t, g);
-    preconditioner(s, sh, l);
+    barrier(fit, s, t);
+    gradient(fit, s, t, g);
+    preconditioner(fit, s);
 }

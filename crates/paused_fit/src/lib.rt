@@ -5,7 +5,7 @@ ghost use Rattle.std.specs.Prelude.{◌≡◌, [], ◌∷◌, length};
 ghost use Rattle.promises.specs.Chain.{Chain};
 ghost use Rattle.whole_fit.specs.Fit.{whole_outcome, whole_of};
 
-use elastic_net::{Answer, Resumed, Started, resume};
+use elastic_net::{Answer, Resumed, resume};
 use records::Paused;
 use settings::Settings;
 use whole_fit::{Whole, refused, settled, start_whole};
@@ -28,13 +28,11 @@ fn resumed(
     ensures { Chain n p x.now y.now st (first ∷ second ∷ third ∷ []) fresh s.old result w.new s.new }
 {
     let r = resume(n, p, x, y, st, fresh, s, w, first);
-    let a = r.answer;
-    let Answer::Pending = a else {
+    let Answer::Pending = r.answer else {
         return r;
     };
     let r = resume(n, p, x, y, st, r.paused, s, w, second);
-    let a = r.answer;
-    let Answer::Pending = a else {
+    let Answer::Pending = r.answer else {
         return r;
     };
     resume(n, p, x, y, st, r.paused, s, w, third)
@@ -56,7 +54,7 @@ pub fn fit_in_pieces(
         ≡ whole_of n p x.now y.now st s.old w.old }
 {
     match start_whole(n, p, x, y, st, s, w.len()) {
-        Started::Ready(fresh) => settled(resumed(
+        Ok(fresh) => settled(resumed(
             n,
             p,
             x,
@@ -69,6 +67,6 @@ pub fn fit_in_pieces(
             second,
             5100 * st.max_iter,
         )),
-        Started::Refused(r) => refused(r),
+        Err(r) => refused(r),
     }
 }

@@ -1,24 +1,21 @@
 -- The refusals in their order: each where its test is the first that fails. Assumes nothing.
+use Rattle.refusal.specs.declared.Refusal.{Refusal}
+use Rattle.std.specs.Prelude.{Option, None, Some, Result, ⊤, Ok, Err}
 use mathlib.Core.Path.{◌≡◌, refl, sym, ◌∙◌}
-use mathlib.Core.Bool.{Bool, true, false, ◌&&◌}
-use mathlib.Core.List.{List, [], ◌∷◌, ◌++◌}
+use mathlib.Core.Bool.{Bool, true, false, ◌&&◌, cond}
+use mathlib.Core.List.{List, [], ◌∷◌, ◌++◌, append_assoc}
 use Prim.Native.Nat.{ℕ, ◌+◌, ◌*◌}
-use native.Mathlib.Nat.{zero-add}
+use native.Mathlib.Nat.{zero-add, add-zero}
 use lib.Dec.{eqb}
-use lib.ListN.{length, length-append}
-use lib.Ieee.{Float}
+use lib.ListN.{length}
+use lib.Ieee.{Float, nan, inf, fin}
 use lib.Ieee.Scale.{finite}
 use borrow.Author.Tests.{eqb-true, eq-eqb}
 use Rattle.arrays.specs.Scan.{first_infinite}
-use Rattle.arrays.specs.declared.scan.Found.{Found}
-use Rattle.arrays.specs.declared.scan.Found.TheVariants.{Clean, At}
-use Rattle.arrays.proofs.Scans.{scan-bad, scan_good}
 use Rattle.refusal.specs.declared.Refusal.TheVariants.{Size, Length, NotFinite}
-use Rattle.refusal.specs.declared.Checked.{Checked}
-use Rattle.refusal.specs.declared.Checked.TheVariants.{Fine, Bad}
 use Rattle.refusal.specs.Checks.{ask_values, found_at}
-use Rattle.refusal.proofs.Scanning.{or_else, further, scan-append, scan-from, FirstBad, scan-first}
-use Rattle.refusal.proofs.Asking.{refuted, both_true, ask-fine}
+use Rattle.arrays.proofs.Scans.{FirstBad, scan-first}
+use Rattle.refusal.proofs.Asking.{then, values-last, values-more, refuted, both_true, ask-fine}
 use Rattle.refusal.specs.Sizes.{in_size}
 use Rattle.refusal.proofs.Sizes.{InSize, size-good, size_of}
 use Rattle.prediction.specs.Predict.{values_of, checked_of}
@@ -44,11 +41,11 @@ module _ (n p : ℕ) (x w : List Float) (out : ℕ) where
       record { matrix = eqb-true _ _ u.0; weights = eqb-true _ _ u.1; predictions = eqb-true _ _ t.1 }
 
 module _ (n p : ℕ) (x w : List Float) (b : Float) (out : ℕ) where
-  pub bad-size : (InSize n p → ⊥) → checked_of n p x w b out ≡ Bad Size
+  pub bad-size : (InSize n p → ⊥) → checked_of n p x w b out ≡ Err Size
   unfolding checked_of
   bad-size h = rw (refuted (in_size n p) (λ t. h (size_of n p t)))
 
-  pub bad-length : InSize n p → (Lengths n p x w out → ⊥) → checked_of n p x w b out ≡ Bad Length
+  pub bad-length : InSize n p → (Lengths n p x w out → ⊥) → checked_of n p x w b out ≡ Err Length
   unfolding checked_of
   bad-length z h = rw (size-good n p z, refuted (length-test n p x w out) (λ t. h (length-of n p x w out t)))
 
@@ -56,7 +53,7 @@ module _ (n p : ℕ) (x w : List Float) (b : Float) (out : ℕ) where
   unfolding checked_of
   good-sizes z l = rw (size-good n p z, length-good n p x w out l)
 
-  pub passed : (k : Checked) → k ≡ checked_of n p x w b out → k ≡ Fine → InSize n p × Lengths n p x w out
+  pub passed : (k : Result ⊤ Refusal) → k ≡ checked_of n p x w b out → k ≡ Ok tt → InSize n p × Lengths n p x w out
   unfolding checked_of
   passed k e f =
       let h₁ = ask-fine _ _ _ (sym e ∙ f) in
@@ -65,31 +62,24 @@ module _ (n p : ℕ) (x w : List Float) (b : Float) (out : ℕ) where
 
 -- ---- 5
 
-lone-good : (i : ℕ) (b : Float) → finite b ≡ true → first_infinite i (b ∷ []) ≡ Clean
-unfolding first_infinite
-lone-good i b h = scan_good i b [] h
-
 module _ (x w : List Float) (b : Float) where
-  values-by : (f g : Found) → f ≡ first_infinite 0 x → g ≡ first_infinite 0 w
-      → values_of x w b ≡ ask_values (or_else (or_else f (further (length x) g)) (first_infinite (length x + length w) (b ∷ []))) Fine
+  pub by-scans : values_of x w b
+      ≡ then (found_at (first_infinite 0 x) 0) (then (found_at (first_infinite 0 w) (length x)) (then (found_at (first_infinite 0 (b ∷ [])) (length x + length w)) (Ok tt)))
   unfolding values_of
-  values-by f g ef eg =
-      rw (scan-append 0 (x ++ w) (b ∷ []), scan-append 0 x w, length-append x w, scan-from (length x) w, ef, eg, zero-add (length x + length w))
+  by-scans =
+      rw (append_assoc x w (b ∷ []), values-more 0 x (Ok tt) (w ++ b ∷ []), zero-add (length x), values-more (length x) w (Ok tt) (b ∷ []), values-last (length x + length w) (b ∷ []) (Ok tt))
 
-  pub in-matrix : (f : Found) (k : ℕ) → f ≡ first_infinite 0 x → f ≡ At k → found_at f 0 ≡ values_of x w b
-  in-matrix f k e t = rw (values-by f _ e refl, t, zero-add)
-
-  module _ (f g : Found) (ef : f ≡ first_infinite 0 x) (eg : g ≡ first_infinite 0 w) (cf : f ≡ Clean) where
-    pub in-weights : (k from : ℕ) → g ≡ At k → length x ≡ from → found_at g from ≡ values_of x w b
-    in-weights k from t l = rw (values-by f g ef eg, cf, t, l)
-
-    pub in-intercept : (from : ℕ) → g ≡ Clean → finite b ≡ false → length x + length w ≡ from → Bad (NotFinite from) ≡ values_of x w b
-    in-intercept from t h l = rw (values-by f g ef eg, cf, t, scan-bad (length x + length w) b [] h, l)
-
-    pub all-finite : g ≡ Clean → finite b ≡ true → Fine ≡ values_of x w b
-    all-finite t h = rw (values-by f g ef eg, cf, t, lone-good (length x + length w) b h)
+  -- what matrix and weights leave is the intercept's
+  pub by-intercept : (f g : Option ℕ) (from further : ℕ) (u v : ⊤) → f ≡ first_infinite 0 x → g ≡ first_infinite 0 w → length x ≡ from → length x + length w ≡ further
+      → found_at f 0 ≡ Ok u → found_at g from ≡ Ok v → values_of x w b ≡ cond (finite b) (Ok tt) (Err (NotFinite further))
+  unfolding first_infinite
+  by-intercept f g from further u v ef eg l k cf cg = rw (by-scans, ← ef, ← eg, cf, k, l, cg) (go b) where
+    go : (b : Float) → then (found_at (first_infinite 0 (b ∷ [])) further) (Ok tt) ≡ cond (finite b) (Ok tt) (Err (NotFinite further))
+    go nan = rw (add-zero further)
+    go (inf s) = rw (add-zero further)
+    go (fin s m e) = refl
 
   -- by the elements of matrix, weights and intercept as one list
-  pub bad-value : (i : ℕ) → FirstBad (x ++ w ++ b ∷ []) i → values_of x w b ≡ Bad (NotFinite i)
+  pub bad-value : (i : ℕ) → FirstBad (x ++ w ++ b ∷ []) i → values_of x w b ≡ Err (NotFinite i)
   unfolding values_of
   bad-value i h = rw (scan-first (x ++ w ++ b ∷ []) i h)

@@ -7,57 +7,39 @@ ghost use Rattle.arrays.specs.Part.{put, tab};
 ghost use Rattle.arrays.specs.Sums.{◌!◌};
 ghost use Rattle.prediction.specs.Predict.{Outcome.outcome, checked_of, values_of, predicted_of, predict_of};
 
-use arrays::scan::{Found, finite, first_infinite};
+use arrays::scan::{finite, first_infinite};
 use arrays::sums::product;
 use numbers::bits::canonical;
-use refusal::{Checked, Refusal, at, in_size};
+use refusal::{Refusal, at, in_size};
 use several::{eight, put_eight};
 
-#[derive(Clone, Copy)]
-pub enum Predicted {
-    Done,
-    Refused(Refusal),
-}
-
 // The first of the refusals 1, 2 and 5 that holds.
-fn check(n: usize, p: usize, x: &[f64], w: &[f64], b: f64, out: usize) -> Checked
+fn check(n: usize, p: usize, x: &[f64], w: &[f64], b: f64, out: usize) -> Result<(), Refusal>
     ensures { result ≡ checked_of n p x.now w.now b out }
 {
     if !in_size(n, p) {
-        return Checked::Bad(Refusal::Size);
+        return Err(Refusal::Size);
     }
-    if x.len() != n * p {
-        return Checked::Bad(Refusal::Length);
-    }
-    if w.len() != p {
-        return Checked::Bad(Refusal::Length);
-    }
-    if out != n {
-        return Checked::Bad(Refusal::Length);
+    if x.len() != n * p || w.len() != p || out != n {
+        return Err(Refusal::Length);
     }
     values(n, p, x, w, b)
 }
 
 // Refusal 5 over matrix, weights and intercept, with its place counted through all of them.
-fn values(n: usize, p: usize, x: &[f64], w: &[f64], b: f64) -> Checked
+fn values(n: usize, p: usize, x: &[f64], w: &[f64], b: f64) -> Result<(), Refusal>
     requires x_len { length x.now ≡ n * p }
     requires w_len { length w.now ≡ p }
     requires n_bound { n ≤ 4096 }
     requires p_bound { p ≤ 64 }
     ensures { result ≡ values_of x.now w.now b }
 {
-    let f = first_infinite(x);
-    let Found::Clean = f else {
-        return at(f, 0);
-    };
-    let f = first_infinite(w);
-    let Found::Clean = f else {
-        return at(f, n * p);
-    };
+    at(first_infinite(x), 0)?;
+    at(first_infinite(w), n * p)?;
     if !finite(b) {
-        return Checked::Bad(Refusal::NotFinite(n * p + p));
+        return Err(Refusal::NotFinite(n * p + p));
     }
-    Checked::Fine
+    Ok(())
 }
 
 // Each product plus the intercept, a NaN with its one pattern.
@@ -102,13 +84,18 @@ fn rows(n: usize, p: usize, x: &[f64], w: &[f64], b: f64, out: &mut [f64])
 }
 
 // Writes a prediction for each of the n rows; a call that is refused writes nothing. Total, for all input: answer and `out` are `predict_of`.
-pub fn predict(n: usize, p: usize, x: &[f64], w: &[f64], b: f64, out: &mut [f64]) -> Predicted
+#[tactic(auto, unfolding(crate::specs::Predict::predict_of))]
+pub fn predict(
+    n: usize,
+    p: usize,
+    x: &[f64],
+    w: &[f64],
+    b: f64,
+    out: &mut [f64],
+) -> Result<(), Refusal>
     ensures { outcome result out.new ≡ predict_of n p x.now w.now b out.old }
 {
-    let c = check(n, p, x, w, b, out.len());
-    if let Checked::Bad(r) = c {
-        return Predicted::Refused(r);
-    }
+    check(n, p, x, w, b, out.len())?;
     rows(n, p, x, w, b, out);
-    Predicted::Done
+    Ok(())
 }

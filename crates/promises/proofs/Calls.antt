@@ -1,4 +1,6 @@
 -- One resuming call on what an accepted start or a pause left. Assumes nothing.
+use Rattle.refusal.specs.declared.Refusal.{Refusal}
+use Rattle.std.specs.Prelude.{Result, ⊤, Ok, Err}
 use Prim.Native.Nat.{ℕ, zero, suc, ◌+◌, ◌*◌, ◌<◌, ◌≤◌}
 use native.Mathlib.Omega.{arith}
 use mathlib.Core.Path.{◌≡◌, refl, ap, sym, ◌∙◌}
@@ -9,8 +11,6 @@ use lib.ListN.{length}
 use lib.Ieee.{Float}
 use borrow.Author.Tests.{lt-ltb}
 use Rattle.refusal.specs.declared.Failure.{Failure}
-use Rattle.refusal.specs.declared.Checked.{Checked}
-use Rattle.refusal.specs.declared.Checked.TheVariants.{Fine, Bad}
 use Rattle.settings.specs.declared.Settings.{Settings}
 use Rattle.settings.specs.Settings.{terms_of}
 use Rattle.settings.proofs.Laws.{allowed-says}
@@ -38,13 +38,13 @@ use Rattle.records.specs.Record.{paused_of, paused_at}
 use Rattle.stages.specs.Stage.{how_of}
 use Rattle.records.proofs.Back.{state-back}
 use Rattle.checks.specs.Checks.{limits_of}
-use Rattle.checks.proofs.Laws.{accepted, accepted-room, sizes-known}
+use Rattle.layout.proofs.Laws.{sizes-known}
+use Rattle.checks.proofs.Laws.{accepted, accepted-room}
 use Rattle.records.specs.Records.{possible_of, possible_at, counted_of}
 use Rattle.records.proofs.Laws.{own-possible}
 use Rattle.beginning.specs.Start.{start_store}
 use Rattle.beginning.proofs.Sized.{start-sized}
 use Rattle.elastic_net.specs.declared.Resumed.{Resumed}
-use Rattle.elastic_net.specs.declared.Started.TheVariants.{Ready as ReadyS, Refused as RefusedS}
 use Rattle.elastic_net.specs.ElasticNet.{pending, said, Outcome, outcome, end_outcome, ending, shown}
 use Rattle.unbroken_fit.specs.Unbroken.{fit_of}
 use Rattle.promises.specs.Chain.{Starts, Resumes}
@@ -80,9 +80,9 @@ proper n p st =
     let k = sizes-known n p st in
     record { all = rw (k.rows, k.columns) k.all; stored = k.stored }
 
-first_fine : (j k : Checked) → first_of j k ≡ Fine → j ≡ Fine
-first_fine Fine k h = refl
-first_fine (Bad r) k h = h
+first_fine : (j k : Result ⊤ Refusal) → first_of j k ≡ Ok tt → j ≡ Ok tt
+first_fine (Ok tt) k h = refl
+first_fine (Err r) k h = h
 
 -- a fresh record passes 9, also where M is 0
 fresh-passes : (M : ℕ) (d : Data) → possible_of M (paused_of (start d)) ≡ true
@@ -111,18 +111,18 @@ module _ (n p : ℕ) (x y : List Float) (st : Settings) where
     pub holds : Has (sizes_of n p st) e (store_of (data_of z)) s
     pub leads : Leads (parts_of n p x st) st.max_iter u k z
     pub passes : possible_of st.max_iter (paused_of z) ≡ true
-    pub fits : limits_of n p (length x) (length y) p st (length s) ≡ Fine
+    pub fits : limits_of n p (length x) (length y) p st (length s) ≡ Ok tt
     pub within : Kept (KeptData (sizes_of n p st).p) z
 
   -- at settings that 3 does not refuse the parts keep the weights within their bounds
-  pub parts_within : (room : ℕ) → limits_of n p (length x) (length y) p st room ≡ Fine → Keeps (KeptData (sizes_of n p st).p) (parts_of n p x st) st.max_iter
+  pub parts_within : (room : ℕ) → limits_of n p (length x) (length y) p st room ≡ Ok tt → Keeps (KeptData (sizes_of n p st).p) (parts_of n p x st) st.max_iter
   parts_within room f = parts-keep sh (terms_of st n) x st.tol M (allowed-says st (accepted f).settings).max_iter (lambda-unsigned st n)
 
   module _ (u : End Failure Data) (e : List Float) (k : ℕ) (z : State Data) (a : Paused) (s : List Float) (g : Poised u e k z a s)
       (w : List Float) (l : length w ≡ p) (b : ℕ) (r : Resumed) (w' s' : List Float) (c : Resumes n p x y st a s w b r w' s') where
     shows : outcome r w' s' ≡ shown (sizes_of n p st) st.normalise (terms_of st n).gamma y e w (call (parts_of n p x st) st.max_iter b z)
     shows =
-        let f : resume_check n p x y st a s w ≡ Fine = rw (l, g.fits, g.is, g.passes) refl in
+        let f : resume_check n p x y st a s w ≡ Ok tt = rw (l, g.fits, g.is, g.passes) refl in
         rw (g.is, rest_of sh g.holds, vars-of sh g.holds, state-back z) at (resume-accepted n p x y st a s w b r w' s' c f)
 
     goes : Always (Leads (parts_of n p x st) st.max_iter u (k + b)) (λ t. t ≡ u) (call (parts_of n p x st) st.max_iter b z)
@@ -183,24 +183,24 @@ module _ (n p : ℕ) (x y : List Float) (st : Settings) where
     says-ended t q h = not-pending sh st.normalise (terms_of st n).gamma y e u (sym (ap (λ (o : Outcome). o.answer) (ended-with t q)) ∙ h)
 
   -- AN ACCEPTED START poises the fit
-  module _ (s s₁ : List Float) (a : Paused) (h : Starts n p x y st s (ReadyS a) s₁) where
-    unrefused : start_check n p x y st s ≡ Fine
+  module _ (s s₁ : List Float) (a : Paused) (h : Starts n p x y st s (Ok a) s₁) where
+    unrefused : start_check n p x y st s ≡ Ok tt
     unrefused = go (start_check n p x y st s) refl where
-      go : (k : Checked) → start_check n p x y st s ≡ k → start_check n p x y st s ≡ Fine
-      go Fine q = q
-      go (Bad r) q =
-          let i : ReadyS a ≡ RefusedS r = (start-refused n p x y st s (ReadyS a) s₁ h r q).0 in
+      go : (k : Result ⊤ Refusal) → start_check n p x y st s ≡ k → start_check n p x y st s ≡ Ok tt
+      go (Ok tt) q = q
+      go (Err r) q =
+          let i : Ok a ≡ Err r = (start-refused n p x y st s (Ok a) s₁ h r q).0 in
           let z : ◌≡◌ {A = ℕ} 0 1 = cc in
           absurd (omega arith)
 
-    pub start_fits : limits_of n p (length x) (length y) p st (length s) ≡ Fine
+    pub start_fits : limits_of n p (length x) (length y) p st (length s) ≡ Ok tt
     start_fits = first_fine _ _ unrefused
 
     pub start-poised : Poised (fit_of n p x y st) (rest (sizes_of n p st) s) 0 (start (first_data n p x y st)) a s₁
     unfolding fit_of optimized paused_of data_of flatly
     start-poised =
-        let o = start-accepted n p x y st s (ReadyS a) s₁ h unrefused in
-        let i : ReadyS a ≡ ReadyS (paused_at Opening 0 none (fresh p (terms_of st n).lambda)) = o.0 in
+        let o = start-accepted n p x y st s (Ok a) s₁ h unrefused in
+        let i : Ok a ≡ Ok (paused_at Opening 0 none (fresh p (terms_of st n).lambda)) = o.0 in
         let j : a ≡ paused_at Opening 0 none (fresh p (terms_of st n).lambda) = cc in
         let v = start_store sh st.normalise (terms_of st n) x y in
         let k = accepted start_fits in

@@ -1,4 +1,5 @@
 -- What holds at every pause, whatever the budgets, and at the unbroken fit's end: weights and counts are within their bounds. Assumes nothing.
+use Rattle.std.specs.Prelude.{Ok}
 use Prim.Native.Nat.{ℕ}
 use mathlib.Core.Path.{◌≡◌, refl, ap, sym, subst, ◌∙◌}
 use mathlib.Core.List.{List}
@@ -26,9 +27,8 @@ use Rattle.lasso_optimizer.specs.Fit.{parts, optimized}
 use Rattle.pausing.specs.Kept.{KeptData}
 use Rattle.records.specs.declared.Paused.{Paused}
 use Rattle.records.specs.Record.{counts_back, paused_of}
-use Rattle.checks.proofs.Laws.{sizes-known}
+use Rattle.layout.proofs.Laws.{sizes-known}
 use Rattle.elastic_net.specs.declared.Resumed.{Resumed}
-use Rattle.elastic_net.specs.declared.Started.TheVariants.{Ready as ReadyS}
 use Rattle.elastic_net.specs.ElasticNet.{pending, said}
 use Rattle.smartcore.specs.LassoOptimizer.{Fitted, Point}
 use Rattle.smartcore.specs.ElasticNet.{optimize_fit}
@@ -87,7 +87,7 @@ module _ (n p : ℕ) (x y : List Float) (st : Settings) where
       passes = rw g.poised.is g.poised.passes;
     }
 
-  module _ (s s₁ : List Float) (a : Paused) (h : Starts n p x y st s (ReadyS a) s₁) where
+  module _ (s s₁ : List Float) (a : Paused) (h : Starts n p x y st s (Ok a) s₁) where
     module _ (bs : List ℕ) (r : Resumed) (w s₂ : List Float) (c : Chain n p x y st bs a s₁ r w s₂) (pend : said r.answer ≡ pending) where
       -- AT EVERY PAUSE the weights in the scratch are within their bounds, and t in the record is finite and positive
       pub pause-keeps : PauseWithin n p st r.paused s₂

@@ -1,4 +1,5 @@
 -- A lazy fit's panels change nothing in what it answers: R and C do not occur in smartcore's fit. Assumes nothing.
+use Rattle.std.specs.Prelude.{Ok}
 use Prim.Native.Nat.{ℕ}
 use mathlib.Core.Path.{◌≡◌, refl, ap, sym, ◌∙◌}
 use mathlib.Core.List.{List, ◌∷◌}
@@ -8,7 +9,6 @@ use Rattle.settings.specs.Settings.{with_panels, l1_of, l2_of, terms_of}
 use Rattle.records.specs.declared.Paused.{Paused}
 use Rattle.records.specs.Records.{ended_of}
 use Rattle.elastic_net.specs.declared.Resumed.{Resumed}
-use Rattle.elastic_net.specs.declared.Started.TheVariants.{Ready as ReadyS}
 use Rattle.elastic_net.specs.ElasticNet.{said}
 use Rattle.smartcore.specs.LassoOptimizer.{Fitted, converged, limit, failed, Point}
 use Rattle.smartcore.specs.ElasticNet.{ElasticNet, optimize_eager, optimize_lazy, optimize_fit, rescaled, model_of, fit}
@@ -38,9 +38,9 @@ module _ (n p : ℕ) (x y : List Float) (st : Settings) (R C : ℕ) where
   fits-are-one = models-are-one (optimize_fit n p x y (with_panels R C st)) ∙ ap (model_of n p x y st) optimizers-are-one
 
   -- PANELS DO NOT MATTER: fits with panels of any two sizes, in any scratch and over any budgets, end with the same answer, counts and weights
-  pub panels-do-not-matter : (s s₁ : List Float) (a : Paused) → Starts n p x y st s (ReadyS a) s₁ → (b : ℕ) (bs : List ℕ) → Enough st.max_iter (b ∷ bs)
+  pub panels-do-not-matter : (s s₁ : List Float) (a : Paused) → Starts n p x y st s (Ok a) s₁ → (b : ℕ) (bs : List ℕ) → Enough st.max_iter (b ∷ bs)
       → (r : Resumed) (w s₂ : List Float) → Chain n p x y st (b ∷ bs) a s₁ r w s₂
-      → (s' s₁' : List Float) (a' : Paused) → Starts n p x y (with_panels R C st) s' (ReadyS a') s₁' → (b' : ℕ) (bs' : List ℕ) → Enough st.max_iter (b' ∷ bs')
+      → (s' s₁' : List Float) (a' : Paused) → Starts n p x y (with_panels R C st) s' (Ok a') s₁' → (b' : ℕ) (bs' : List ℕ) → Enough st.max_iter (b' ∷ bs')
       → (r' : Resumed) (w' s₂' : List Float) → Chain n p x y (with_panels R C st) (b' ∷ bs') a' s₁' r' w' s₂' → SameEnd r r' w w'
   unfolding ended_of
   panels-do-not-matter s s₁ a h b bs enough r w s₂ c s' s₁' a' h' b' bs' enough' r' w' s₂' c' =

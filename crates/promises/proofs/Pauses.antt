@@ -1,4 +1,5 @@
 -- The pause theorem on the public contracts. Assumes nothing.
+use Rattle.std.specs.Prelude.{Ok}
 use Prim.Native.Nat.{ℕ, ◌+◌, ◌*◌, ◌≤◌}
 use native.Mathlib.Nat.{zero-add}
 use native.Mathlib.Omega.{arith}
@@ -17,11 +18,10 @@ use Rattle.pause.specs.Parts.{End}
 use Rattle.pause.specs.Paused.{State, call, start}
 use Rattle.lasso_optimizer.specs.Data.{Data}
 use Rattle.records.specs.declared.Paused.{Paused}
-use Rattle.checks.proofs.Laws.{sizes-known}
+use Rattle.layout.proofs.Laws.{sizes-known}
 use Rattle.records.specs.Records.{ended_of}
 use Rattle.ending.specs.End.{gone}
 use Rattle.elastic_net.specs.declared.Resumed.{Resumed}
-use Rattle.elastic_net.specs.declared.Started.TheVariants.{Ready as ReadyS}
 use Rattle.elastic_net.specs.ElasticNet.{pending, said, Outcome, outcome, ending}
 use Rattle.smartcore.specs.LassoOptimizer.{Fitted}
 use Rattle.smartcore.specs.ElasticNet.{ElasticNet, fit}
@@ -95,7 +95,7 @@ pub record EndsAs (n p : ℕ) (st : Settings) (e : List Float) (o : Fitted Elast
   pub weights : w ≡ weights_in p o
   pub scratch : s ≡ fill_of plus0 (words (sizes_of n p st)) ++ e
 
-module _ (n p : ℕ) (x y : List Float) (st : Settings) (s s₁ : List Float) (a : Paused) (h : Starts n p x y st s (ReadyS a) s₁) where
+module _ (n p : ℕ) (x y : List Float) (st : Settings) (s s₁ : List Float) (a : Paused) (h : Starts n p x y st s (Ok a) s₁) where
   -- the end is that of the parts in nested loops
   pub pause-theorem : (b : ℕ) (bs : List ℕ) → Enough st.max_iter (b ∷ bs)
       → (r : Resumed) (w s₂ : List Float) → Chain n p x y st (b ∷ bs) a s₁ r w s₂

@@ -1,4 +1,5 @@
 -- Each call's refusal is the first in 01's order, and changes nothing; a call that none refuses starts, or goes on. Assumes nothing.
+use Rattle.std.specs.Prelude.{Result, ⊤, Ok, Err}
 use Prim.Native.Nat.{ℕ}
 use mathlib.Core.Path.{◌≡◌, ap, ◌∙◌}
 use mathlib.Core.Bool.{cond}
@@ -7,8 +8,6 @@ use lib.ListN.{length}
 use lib.Ieee.{Float}
 use Rattle.refusal.specs.declared.Refusal.{Refusal}
 use Rattle.refusal.specs.declared.Refusal.TheVariants.{Record}
-use Rattle.refusal.specs.declared.Checked.{Checked}
-use Rattle.refusal.specs.declared.Checked.TheVariants.{Fine, Bad}
 use Rattle.settings.specs.declared.Settings.{Settings}
 use Rattle.settings.specs.Settings.{terms_of}
 use Rattle.layout.specs.Slots.{flatly, rest, vars}
@@ -25,40 +24,38 @@ use Rattle.beginning.specs.Start.{start_store}
 use Rattle.elastic_net.specs.declared.Answer.{Answer}
 use Rattle.elastic_net.specs.declared.Answer.TheVariants.{Refused}
 use Rattle.elastic_net.specs.declared.Resumed.{Resumed}
-use Rattle.elastic_net.specs.declared.Started.{Started}
-use Rattle.elastic_net.specs.declared.Started.TheVariants.{Ready as ReadyS, Refused as RefusedS}
 use Rattle.elastic_net.specs.ElasticNet.{said, Outcome, outcome, by_check, resume_of, shown, StartOutcome, by_start_check, start_of}
 use Rattle.promises.specs.Chain.{Starts, Resumes}
 use Rattle.promises.specs.Refused.{first_of, start_check, resume_check, Unchanged}
 use Rattle.promises.proofs.Unique.{outcomes-same, starts-same}
 
-start-when : (j k : Checked) (s : List Float) (t good : StartOutcome) → t ≡ by_start_check j s (by_start_check k s good) → (c : Checked) → first_of j k ≡ c
+start-when : (j k : Result ⊤ Refusal) (s : List Float) (t good : StartOutcome) → t ≡ by_start_check j s (by_start_check k s good) → (c : Result ⊤ Refusal) → first_of j k ≡ c
     → t ≡ by_start_check c s good
-start-when Fine k s t good h c q = h ∙ ap (λ (i : Checked). by_start_check i s good) q
-start-when (Bad r) k s t good h c q = h ∙ ap (λ (i : Checked). by_start_check i s good) q
+start-when (Ok tt) k s t good h c q = h ∙ ap (λ (i : Result ⊤ Refusal). by_start_check i s good) q
+start-when (Err r) k s t good h c q = h ∙ ap (λ (i : Result ⊤ Refusal). by_start_check i s good) q
 
-resume-when : (j k : Checked) (a : Paused) (w s : List Float) (t good : Outcome) → t ≡ by_check j a w s (by_check k a w s good) → (c : Checked) → first_of j k ≡ c
+resume-when : (j k : Result ⊤ Refusal) (a : Paused) (w s : List Float) (t good : Outcome) → t ≡ by_check j a w s (by_check k a w s good) → (c : Result ⊤ Refusal) → first_of j k ≡ c
     → t ≡ by_check c a w s good
-resume-when Fine k a w s t good h c q = h ∙ ap (λ (i : Checked). by_check i a w s good) q
-resume-when (Bad r) k a w s t good h c q = h ∙ ap (λ (i : Checked). by_check i a w s good) q
+resume-when (Ok tt) k a w s t good h c q = h ∙ ap (λ (i : Result ⊤ Refusal). by_check i a w s good) q
+resume-when (Err r) k a w s t good h c q = h ∙ ap (λ (i : Result ⊤ Refusal). by_check i a w s good) q
 
-module _ (n p : ℕ) (x y : List Float) (st : Settings) (s : List Float) (o : Started) (s₁ : List Float) (h : Starts n p x y st s o s₁) where
+module _ (n p : ℕ) (x y : List Float) (st : Settings) (s : List Float) (o : Result Paused Refusal) (s₁ : List Float) (h : Starts n p x y st s o s₁) where
   -- REFUSED: the scratch is as it was
-  pub start-refused : (r : Refusal) → start_check n p x y st s ≡ Bad r → (o ≡ RefusedS r) × (s₁ ≡ s)
+  pub start-refused : (r : Refusal) → start_check n p x y st s ≡ Err r → (o ≡ Err r) × (s₁ ≡ s)
   unfolding start_of
   start-refused r q =
-      starts-same o (RefusedS r) s₁ s
-      (start-when (limits_of n p (length x) (length y) p st (length s)) (start_values x y n p st.normalise) s _ _ h (Bad r) q)
+      starts-same o (Err r) s₁ s
+      (start-when (limits_of n p (length x) (length y) p st (length s)) (start_values x y n p st.normalise) s _ _ h (Err r) q)
 
   -- ACCEPTED: a fresh record, and the scratch holds a fresh fit's vectors, its excess as it was
-  pub start-accepted : start_check n p x y st s ≡ Fine
-      → (o ≡ ReadyS (paused_at Opening 0 none (fresh p (terms_of st n).lambda)))
+  pub start-accepted : start_check n p x y st s ≡ Ok tt
+      → (o ≡ Ok (paused_at Opening 0 none (fresh p (terms_of st n).lambda)))
       × (s₁ ≡ flatly (sizes_of n p st) (start_store (sizes_of n p st) st.normalise (terms_of st n) x y) (rest (sizes_of n p st) s))
   unfolding start_of
   start-accepted q =
-      starts-same o (ReadyS (paused_at Opening 0 none (fresh p (terms_of st n).lambda))) s₁
+      starts-same o (Ok (paused_at Opening 0 none (fresh p (terms_of st n).lambda))) s₁
       (flatly (sizes_of n p st) (start_store (sizes_of n p st) st.normalise (terms_of st n) x y) (rest (sizes_of n p st) s))
-      (start-when (limits_of n p (length x) (length y) p st (length s)) (start_values x y n p st.normalise) s _ _ h Fine q)
+      (start-when (limits_of n p (length x) (length y) p st (length s)) (start_values x y n p st.normalise) s _ _ h (Ok tt) q)
 
 pub unchanged : (a : Paused) (s w : List Float) (r : Resumed) (w' s' : List Float) (g : Answer)
     → outcome r w' s' ≡ record { answer = said g; paused = a; weights = w; scratch = s } → Unchanged a s w r w' s' g
@@ -69,16 +66,16 @@ unchanged a s w r w' s' g o =
 module _ (n p : ℕ) (x y : List Float) (st : Settings) (a : Paused) (s w : List Float) (b : ℕ) (r : Resumed) (w' s' : List Float)
     (h : Resumes n p x y st a s w b r w' s') where
   -- REFUSED, by 1 to 4 or by 9: record, weights and scratch are as they were
-  pub resume-refused : (q : Refusal) → resume_check n p x y st a s w ≡ Bad q → Unchanged a s w r w' s' (Refused q)
+  pub resume-refused : (q : Refusal) → resume_check n p x y st a s w ≡ Err q → Unchanged a s w r w' s' (Refused q)
   unfolding resume_of
   resume-refused q e =
       unchanged a s w r w' s' (Refused q)
-      (resume-when (limits_of n p (length x) (length y) (length w) st (length s)) (cond (possible_of st.max_iter a) Fine (Bad Record)) a w s _ _ h (Bad q) e)
+      (resume-when (limits_of n p (length x) (length y) (length w) st (length s)) (cond (possible_of st.max_iter a) (Ok tt) (Err Record)) a w s _ _ h (Err q) e)
 
   -- GOES ON: the state of the fit after the call
-  pub resume-accepted : resume_check n p x y st a s w ≡ Fine
+  pub resume-accepted : resume_check n p x y st a s w ≡ Ok tt
       → outcome r w' s'
       ≡ shown (sizes_of n p st) st.normalise (terms_of st n).gamma y (rest (sizes_of n p st) s) w
       (call (parts (sizes_of n p st) (terms_of st n) st.tol x) st.max_iter b (state_of a (vars (sizes_of n p st) s)))
   unfolding resume_of
-  resume-accepted e = resume-when (limits_of n p (length x) (length y) (length w) st (length s)) (cond (possible_of st.max_iter a) Fine (Bad Record)) a w s _ _ h Fine e
+  resume-accepted e = resume-when (limits_of n p (length x) (length y) (length w) st (length s)) (cond (possible_of st.max_iter a) (Ok tt) (Err Record)) a w s _ _ h (Ok tt) e

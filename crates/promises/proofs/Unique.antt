@@ -1,4 +1,6 @@
 -- Any two outcomes that a contract permits coincide. Assumes nothing.
+use Rattle.refusal.specs.declared.Refusal.{Refusal}
+use Rattle.std.specs.Prelude.{Err, Ok, Result}
 use Prim.Native.Nat.{ℕ}
 use mathlib.Core.Path.{◌≡◌, refl, ap, sym, ◌∙◌}
 use mathlib.Core.List.{List}
@@ -10,8 +12,6 @@ use Rattle.refusal.specs.declared.Way.TheVariants.{Converged, Limit}
 use Rattle.elastic_net.specs.declared.Answer.{Answer}
 use Rattle.elastic_net.specs.declared.Answer.TheVariants.{Pending, Done, Refused}
 use Rattle.elastic_net.specs.declared.Resumed.{Resumed}
-use Rattle.elastic_net.specs.declared.Started.{Started}
-use Rattle.elastic_net.specs.declared.Started.TheVariants.{Ready as ReadyS, Refused as RefusedS}
 use Rattle.elastic_net.specs.ElasticNet.{Said, pending, converged, limit, refused, said, Outcome, outcome, SaidS, ready, refused_s, said_s, StartOutcome, start_outcome}
 use Rattle.promises.specs.Chain.{Starts, Resumes}
 
@@ -30,20 +30,20 @@ unsaid-said (Done b Converged c) = refl
 unsaid-said (Done b Limit c) = refl
 unsaid-said (Refused r) = ap Refused (refusal-back r)
 
-unsaid_s : SaidS → Started
-unsaid_s (ready a) = ReadyS a
-unsaid_s (refused_s k i) = RefusedS (refusal_of k i)
+unsaid_s : SaidS → Result Paused Refusal
+unsaid_s (ready a) = Ok a
+unsaid_s (refused_s k i) = Err (refusal_of k i)
 
-unsaid_s-said : (a : Started) → unsaid_s (said_s a) ≡ a
+unsaid_s-said : (a : Result Paused Refusal) → unsaid_s (said_s a) ≡ a
 unfolding unsaid_s
-unsaid_s-said (ReadyS a) = refl
-unsaid_s-said (RefusedS r) = ap RefusedS (refusal-back r)
+unsaid_s-said (Ok a) = refl
+unsaid_s-said (Err r) = ap Err (refusal-back r)
 
 -- ANSWERS THAT SAY THE SAME are the same
 pub said_same : (a b : Answer) → said a ≡ said b → a ≡ b
 said_same a b q = sym (unsaid-said a) ∙ ap unsaid q ∙ unsaid-said b
 
-pub said_s-same : (a b : Started) → said_s a ≡ said_s b → a ≡ b
+pub said_s-same : (a b : Result Paused Refusal) → said_s a ≡ said_s b → a ≡ b
 said_s-same a b q = sym (unsaid_s-said a) ∙ ap unsaid_s q ∙ unsaid_s-said b
 
 -- ---- the contracts
@@ -65,7 +65,7 @@ outcomes-same r r' w w' s s' q = record {
 }
 
 -- and so for starts
-pub starts-same : (r r' : Started) (s s' : List Float) → start_outcome r s ≡ start_outcome r' s' → (r ≡ r') × (s ≡ s')
+pub starts-same : (r r' : Result Paused Refusal) (s s' : List Float) → start_outcome r s ≡ start_outcome r' s' → (r ≡ r') × (s ≡ s')
 starts-same r r' s s' q = (said_s-same r r' (ap (λ (o : StartOutcome). o.answer) q), ap (λ (o : StartOutcome). o.scratch) q)
 
 module _ (n p : ℕ) (x y : List Float) (st : Settings) where
@@ -73,6 +73,6 @@ module _ (n p : ℕ) (x y : List Float) (st : Settings) where
       → Resumes n p x y st a s w b r w₁ s₁ → Resumes n p x y st a s w b r' w₂ s₂ → Same r r' w₁ w₂ s₁ s₂
   resume-unique a s w b r r' w₁ w₂ s₁ s₂ h k = outcomes-same r r' w₁ w₂ s₁ s₂ (h ∙ sym k)
 
-  pub start-unique : (s : List Float) (r r' : Started) (s₁ s₂ : List Float)
+  pub start-unique : (s : List Float) (r r' : Result Paused Refusal) (s₁ s₂ : List Float)
       → Starts n p x y st s r s₁ → Starts n p x y st s r' s₂ → (r ≡ r') × (s₁ ≡ s₂)
   start-unique s r r' s₁ s₂ h k = starts-same r r' s₁ s₂ (h ∙ sym k)

@@ -1,14 +1,14 @@
 -- Calls as the public contracts allow them, one after another. Definitions only.
-use Rattle.std.specs.Prelude.{ℕ, ◌*◌, ◌≤◌, ◌≡◌, List, [], ◌∷◌, length, Float}
+use Rattle.refusal.specs.declared.Refusal.{Refusal}
+use Rattle.std.specs.Prelude.{ℕ, ◌*◌, ◌≤◌, ◌≡◌, List, [], ◌∷◌, length, Float, Result}
 use Rattle.settings.specs.declared.Settings.{Settings}
 use Rattle.pause.specs.Progress.{total}
 use Rattle.records.specs.declared.Paused.{Paused}
 use Rattle.elastic_net.specs.declared.Resumed.{Resumed}
-use Rattle.elastic_net.specs.declared.Started.{Started}
 use Rattle.elastic_net.specs.ElasticNet.{said, pending, outcome, resume_of, start_outcome, start_of}
 
 -- the contracts: what `start` and `resume` may answer and leave
-abbrev pub Starts : ℕ → ℕ → List Float → List Float → Settings → List Float → Started → List Float → Type 0
+abbrev pub Starts : ℕ → ℕ → List Float → List Float → Settings → List Float → Result Paused Refusal → List Float → Type 0
 Starts n p x y st s r s' = start_outcome r s' ≡ start_of n p x y st s
 
 abbrev pub Resumes : ℕ → ℕ → List Float → List Float → Settings → Paused → List Float → List Float → ℕ → Resumed → List Float → List Float → Type 0

@@ -6,9 +6,9 @@ ghost use Rattle.refusal.specs.Checks.{found_at, Near};
 ghost use Rattle.refusal.specs.Refusal.{ends_fit, number_of, place_of, refused_by};
 ghost use Rattle.refusal.specs.Sizes.{in_size};
 
-use arrays::scan::Found;
+use std::fmt;
 
-#[derive(Clone, Copy)]
+#[derive(Clone, Copy, PartialEq, Eq, Debug)]
 pub enum Refusal {
     Size,
     Length,
@@ -29,24 +29,17 @@ pub enum Refusal {
 }
 
 // How a fit is done: with converged weights, or after as many rounds as it may make.
-#[derive(Clone, Copy)]
+#[derive(Clone, Copy, PartialEq, Eq, Debug)]
 pub enum Way {
     Converged,
     Limit,
 }
 
 // Why a fit fails that was begun: a round's search found no step, or its solver's tolerance is at or below 0.
-#[derive(Clone, Copy)]
+#[derive(Clone, Copy, PartialEq, Eq, Debug)]
 pub enum Failure {
     Search,
     Tolerance,
-}
-
-// What a check of an input answers.
-#[derive(Clone, Copy)]
-pub enum Checked {
-    Fine,
-    Bad(Refusal),
 }
 
 // Its number, from 1 to 16, which callers in C and Rust see.
@@ -78,32 +71,36 @@ pub fn place(r: Refusal) -> usize
     ensures { result ≡ place_of r }
 {
     match r {
-        Refusal::NotFinite(i) => i,
-        Refusal::Constant(j) => j,
-        Refusal::Claim(i) => i,
-        Refusal::Pair(i) => i,
-        Refusal::Size => 0,
-        Refusal::Length => 0,
-        Refusal::Setting => 0,
-        Refusal::Scratch => 0,
-        Refusal::Search => 0,
-        Refusal::Tolerance => 0,
-        Refusal::Record => 0,
-        Refusal::NoRounds => 0,
-        Refusal::Version => 0,
-        Refusal::SheetLength => 0,
-        Refusal::Flags => 0,
-        Refusal::TooLarge => 0,
+        Refusal::NotFinite(i) | Refusal::Constant(i) | Refusal::Claim(i) | Refusal::Pair(i) => i,
+        _ => 0,
+    }
+}
+
+// As the programs print it.
+impl fmt::Display for Refusal {
+    fn fmt<W: fmt::Write>(&self, f: &mut fmt::Formatter<W>) -> fmt::Result {
+        write!(f, "refused {} at {}", number(*self), place(*self))
+    }
+}
+
+impl fmt::Display for Way {
+    fn fmt<W: fmt::Write>(&self, f: &mut fmt::Formatter<W>) -> fmt::Result {
+        match self {
+            Way::Converged => write!(f, "converged"),
+            Way::Limit => write!(f, "limit"),
+        }
     }
 }
 
 // The refusal that a failed fit ends with.
-pub fn refused_by(f: Failure) -> Refusal
-    ensures { result ≡ refused_by f }
-{
-    match f {
-        Failure::Search => Refusal::Search,
-        Failure::Tolerance => Refusal::Tolerance,
+impl From<Failure> for Refusal {
+    ghost from_gives = { λ f r. r ≡ refused_by f };
+
+    fn from(f: Failure) -> Refusal {
+        match f {
+            Failure::Search => Refusal::Search,
+            Failure::Tolerance => Refusal::Tolerance,
+        }
     }
 }
 
@@ -111,36 +108,23 @@ pub fn refused_by(f: Failure) -> Refusal
 pub fn ends_fit(r: Refusal) -> bool
     ensures { result ≡ ends_fit (number_of r) }
 {
-    let k = number(r);
-    if k == number(refused_by(Failure::Search)) {
-        return true;
-    }
-    k == number(refused_by(Failure::Tolerance))
+    matches!(r, Refusal::Search | Refusal::Tolerance)
 }
 
 // The ranges of rows and columns, 1 to 4,096 and 1 to 64, which refusal 1 asks of every call.
 pub fn in_size(n: usize, p: usize) -> bool
     ensures { result ≡ in_size n p }
 {
-    if n < 1 {
-        return false;
-    }
-    if n > 4096 {
-        return false;
-    }
-    if p < 1 {
-        return false;
-    }
-    p <= 64
+    1 <= n && n <= 4096 && 1 <= p && p <= 64
 }
 
-// A scan's find as refusal 5, its place counted from `from`, since several slices count as one. Fine where the scan was clean.
-pub fn at(f: Found, from: usize) -> Checked
+// A scan's find as refusal 5, its place counted from `from`, since several slices count as one. None where the scan found nothing.
+pub fn at(f: Option<usize>, from: usize) -> Result<(), Refusal>
     requires { Near f from }
     ensures { result ≡ found_at f from }
 {
     match f {
-        Found::At(i) => Checked::Bad(Refusal::NotFinite(from + i)),
-        Found::Clean => Checked::Fine,
+        Some(i) => Err(Refusal::NotFinite(from + i)),
+        None => Ok(()),
     }
 }

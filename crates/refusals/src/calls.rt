@@ -1,131 +1,106 @@
 // One call over words on marked memory: what it answers, and what became of memory, record and weights.
-ghost use Rattle.std.specs.Prelude.{◌≡◌, ◌≤◌, length};
+ghost use Rattle.std.specs.Prelude.{◌≤◌};
 
-use super::table::{refused, solved, written, wrote};
+use super::table::Outcome;
 use c_api::{xangoravit_predict, xangoravit_resume, xangoravit_solve, xangoravit_start};
 use numbers::bits::of_bits;
-use std::io;
-use stored::bits::equal;
-use stored::memory::{MARK, Spoilt, cleared, fill, kept, number_at};
+use stored::memory::{MARK, Marks, Spoilt};
+use stored::{Damaged, length_in};
 
 // The buffers' lengths: matrix, targets and weights each; scratch.
-pub const LENT: usize = 4300;
+const LENT: usize = 4300;
 
-pub const SCRATCH: usize = 20600;
+const SCRATCH: usize = 20600;
 
 // The place of the scratch's first mark. Those of matrix, targets and weights follow each other from 0 on.
 const SCRATCH_AT: usize = 20000;
 
-pub const START: u64 = 0;
-
-pub const RESUME: u64 = 1;
-
-pub const PREDICT: u64 = 2;
-
-// Matrix and targets, one behind the other.
-fn inputs(q: Spoilt) -> [f64; 8600]
-    ensures { 8600 ≡ length result }
-{
-    let mut r = [0.0; 8600];
-    fill(&mut r, 0, q);
-    r
+#[derive(Clone, Copy, PartialEq, Eq)]
+pub enum Call {
+    Start,
+    Resume,
+    Predict,
+    Solve,
 }
 
-fn weights(q: Spoilt, first: usize) -> [f64; 4300]
-    ensures { 4300 ≡ length result }
-{
-    let mut r = [0.0; 4300];
-    fill(&mut r, first, q);
-    r
-}
-
-fn scratch(q: Spoilt) -> [f64; 20600]
-    ensures { 20600 ≡ length result }
-{
-    let mut r = [0.0; 20600];
-    fill(&mut r, SCRATCH_AT, q);
-    r
-}
-
-fn spoilt(w: &[u64]) -> Spoilt
-    requires { length w.now ≡ 36 }
-{
-    Spoilt {
-        value: w[15],
-        from: w[16] as usize,
-        times: w[17] as usize,
-        apart: w[18] as usize,
+// The solver's number is any other.
+impl From<u64> for Call {
+    fn from(word: u64) -> Call {
+        match word {
+            0 => Call::Start,
+            1 => Call::Resume,
+            2 => Call::Predict,
+            _ => Call::Solve,
+        }
     }
 }
 
-// A length that the buffer has; no record that is shown has another.
-fn length_in(word: u64, most: usize) -> usize
-    ensures { result ≤ most }
-{
-    let n = word as usize;
-    if n > most {
-        return 0;
-    }
-    n
-}
-
-// What a call reads besides the matrix: a prediction its weights, any other its targets or right side.
-fn read_words(w: &[u64]) -> u64
-    requires { length w.now ≡ 36 }
-{
-    if w[0] == PREDICT { w[13] } else { w[12] }
-}
-
-// What it writes besides the scratch: weights, predictions, or the solver's start.
-fn written_words(w: &[u64]) -> u64
-    requires { length w.now ≡ 36 }
-{
-    if w[0] == PREDICT { w[12] } else { w[13] }
-}
-
-// The places between what a call reads and what it writes: a prediction's intercept has one.
-fn ahead(w: &[u64]) -> usize
-    requires { length w.now ≡ 36 }
-{
-    if w[0] == PREDICT { 1 } else { 0 }
-}
-
-pub fn called(rt: &impl Print, w: &[u64]) -> io::Result<()>
-    requires { length w.now ≡ 36 }
-{
-    let q = spoilt(w);
-    let a = length_in(w[11], LENT);
-    let b = a + length_in(read_words(w), LENT);
-    let c = length_in(written_words(w), LENT);
-    let k = length_in(w[14], SCRATCH);
-    let xs = inputs(q);
-    let mut vs = weights(q, std::num::wrapping_add_usize(b, ahead(w)));
-    let mut ss = scratch(q);
-    let xs = &xs[0..b];
-    tried(rt, w, &xs[0..a], &xs[a..], &mut vs[0..c], &mut ss[0..k])
-}
-
-fn tried(
-    rt: &impl Print,
-    w: &[u64],
-    x: &[f64],
-    y: &[f64],
-    v: &mut [f64],
-    s: &mut [f64],
-) -> io::Result<()>
-    requires { length w.now ≡ 36 }
-{
-    match w[0] {
-        START => started(rt, w, x, y, s),
-        RESUME => resumed(rt, w, x, y, v, s),
-        PREDICT => predicted(rt, w, x, y, v),
-        _ => ended(rt, w, x, y, v, s),
+// The marks of the call's values.
+fn marks(w: &[u64; 36]) -> Marks {
+    Marks {
+        first: 0,
+        spoilt: Spoilt {
+            value: w[15],
+            from: w[16] as usize,
+            times: w[17] as usize,
+            apart: w[18] as usize,
+        },
     }
 }
 
-fn started(rt: &impl Print, w: &[u64], x: &[f64], y: &[f64], s: &mut [f64]) -> io::Result<()>
-    requires { length w.now ≡ 36 }
-{
+// How much of the buffers is lent.
+#[derive(Clone, Copy)]
+pub struct Lengths {
+    matrix: usize,
+    targets: usize,
+    weights: usize,
+    scratch: usize,
+    ghost matrix_bound: { matrix ≤ 4300 },
+    ghost targets_bound: { targets ≤ 4300 },
+    ghost weights_bound: { weights ≤ 4300 },
+    ghost scratch_bound: { scratch ≤ 20600 },
+}
+
+impl Lengths {
+    pub fn read(w: &[u64; 36]) -> Result<Lengths, Damaged> {
+        Ok(Lengths {
+            matrix: length_in(w[11], LENT, 12)?,
+            targets: length_in(w[12], LENT, 13)?,
+            weights: length_in(w[13], LENT, 14)?,
+            scratch: length_in(w[14], SCRATCH, 15)?,
+        })
+    }
+}
+
+pub fn called(w: &[u64; 36], lengths: Lengths) -> Outcome {
+    // What a call reads besides the matrix, and what it writes besides the scratch: targets or right side, and weights or the solver's start; a prediction
+    // its weights, and the predictions, with a place between them that the intercept has.
+    let call = Call::from(w[0]);
+    let (reads, writes, between) = if call == Call::Predict {
+        (lengths.weights, lengths.targets, 1)
+    } else {
+        (lengths.targets, lengths.weights, 0)
+    };
+    let ahead = lengths.matrix + reads;
+    let marks = marks(w);
+    let mut inputs = [0.0; 8600];
+    marks.fill(&mut inputs);
+    let mut outputs = [0.0; LENT];
+    marks.behind(ahead + between).fill(&mut outputs);
+    let mut scratch = [0.0; SCRATCH];
+    marks.behind(SCRATCH_AT).fill(&mut scratch);
+    let (x, y) = inputs[..ahead].split_at(lengths.matrix);
+    let v = &mut outputs[..writes];
+    let s = &mut scratch[..lengths.scratch];
+    match call {
+        Call::Start => started(w, x, y, s),
+        Call::Resume => resumed(w, x, y, v, s),
+        Call::Predict => predicted(w, x, y, v),
+        Call::Solve => ended(w, x, y, v, s),
+    }
+}
+
+fn started(w: &[u64; 36], x: &[f64], y: &[f64], s: &mut [f64]) -> Outcome {
     let mut rec = [MARK; 16];
     let mut answer = [MARK; 7];
     let r = xangoravit_start(
@@ -138,25 +113,16 @@ fn started(rt: &impl Print, w: &[u64], x: &[f64], y: &[f64], s: &mut [f64]) -> i
         &mut rec,
         &mut answer,
     );
-    let n = stored::memory::written(s, SCRATCH_AT, spoilt(w));
+    let n = marks(w).behind(SCRATCH_AT).written(s);
     if r == 0 && answer[0] == 0 {
-        return wrote(rt, "ready", n);
+        return Outcome::Ready(n);
     }
-    let marks = [MARK; 16];
-    refused(rt, r, &answer, n == 0 && equal(&rec, &marks))
+    refused(r, &answer, n == 0 && rec == [MARK; 16])
 }
 
-fn resumed(
-    rt: &impl Print,
-    w: &[u64],
-    x: &[f64],
-    y: &[f64],
-    weights: &mut [f64],
-    s: &mut [f64],
-) -> io::Result<()>
-    requires { length w.now ≡ 36 }
-{
-    let mut rec = record(w);
+fn resumed(w: &[u64; 36], x: &[f64], y: &[f64], weights: &mut [f64], s: &mut [f64]) -> Outcome {
+    let mut rec = [0; 16];
+    rec.copy_from_slice(&w[19..35]);
     let mut answer = [MARK; 7];
     let r = xangoravit_resume(
         w[1] as usize,
@@ -170,52 +136,43 @@ fn resumed(
         w[35],
         &mut answer,
     );
-    let q = spoilt(w);
-    let n = stored::memory::written(s, SCRATCH_AT, q);
-    let nothing = n == 0 && kept(weights, behind(x, y), q) && equal(&rec, &w[19..35]);
-    told(rt, r, &answer, n, nothing)
+    let marks = marks(w);
+    let n = marks.behind(SCRATCH_AT).written(s);
+    let nothing = n == 0
+        && marks.behind(behind(x, y)).kept(weights)
+        && rec.as_slice() == &w[19..35];
+    told(r, &answer, n, nothing)
 }
 
-fn record(w: &[u64]) -> [u64; 16]
-    requires { length w.now ≡ 36 }
-    ensures { 16 ≡ length result }
-{
-    [
-        w[19], w[20], w[21], w[22], w[23], w[24], w[25], w[26], w[27], w[28], w[29], w[30], w[31],
-        w[32], w[33], w[34],
-    ]
-}
-
-fn told(rt: &impl Print, r: u64, answer: &[u64], n: usize, nothing: bool) -> io::Result<()>
-    requires { length answer.now ≡ 7 }
-{
+fn told(r: u64, answer: &[u64; 7], n: usize, nothing: bool) -> Outcome {
     if r != 0 {
-        return refused(rt, r, answer, nothing);
+        return refused(r, answer, nothing);
     }
     match answer[0] {
-        0 => {
-            print!(rt; "pending")?;
-            written(rt, nothing)
-        }
-        1 => wrote(rt, "ended converged", n),
-        2 => wrote(rt, "ended limit", n),
-        _ => refused(rt, r, answer, nothing),
+        0 => Outcome::Pending { nothing },
+        1 => Outcome::Converged(n),
+        2 => Outcome::Limit(n),
+        _ => refused(r, answer, nothing),
+    }
+}
+
+// The call returned the number that its answer has.
+fn refused(returned: u64, answer: &[u64; 7], nothing: bool) -> Outcome {
+    let [kind, number, place, ..] = *answer;
+    if kind != 3 || number != returned {
+        return Outcome::NoKind;
+    }
+    Outcome::Refused {
+        number,
+        place,
+        nothing,
     }
 }
 
 // The values are matrix, weights and intercept.
-fn predicted(
-    rt: &impl Print,
-    w: &[u64],
-    x: &[f64],
-    weights: &[f64],
-    out: &mut [f64],
-) -> io::Result<()>
-    requires { length w.now ≡ 36 }
-{
-    let q = spoilt(w);
-    let at = behind(x, weights);
-    let b = number_at(at, q);
+fn predicted(w: &[u64; 36], x: &[f64], weights: &[f64], out: &mut [f64]) -> Outcome {
+    let marks = marks(w).behind(behind(x, weights));
+    let b = marks.number_at(0);
     let mut answer = [MARK; 7];
     let r = xangoravit_predict(
         w[1] as usize,
@@ -226,30 +183,20 @@ fn predicted(
         out,
         &mut answer,
     );
-    let n = stored::memory::written(out, std::num::wrapping_add_usize(at, 1), q);
+    let n = marks.behind(1).written(out);
     if r == 0 && answer[0] == 1 {
-        return wrote(rt, "predicted", n);
+        return Outcome::Predicted(n);
     }
-    refused(rt, r, &answer, n == 0)
+    refused(r, &answer, n == 0)
 }
 
-// The place behind those of two slices.
+// How many values two slices have.
 fn behind(x: &[f64], y: &[f64]) -> usize {
-    std::num::wrapping_add_usize(x.len(), y.len())
+    x.len().wrapping_add(y.len())
 }
 
 // The values are matrix, right side and start.
-fn ended(
-    rt: &impl Print,
-    w: &[u64],
-    m: &[f64],
-    right: &[f64],
-    x: &mut [f64],
-    s: &mut [f64],
-) -> io::Result<()>
-    requires { length w.now ≡ 36 }
-{
-    let q = spoilt(w);
+fn ended(w: &[u64; 36], m: &[f64], right: &[f64], x: &mut [f64], s: &mut [f64]) -> Outcome {
     let mut answer = [MARK; 7];
     let r = xangoravit_solve(
         w[1] as usize,
@@ -261,13 +208,12 @@ fn ended(
         s,
         &mut answer,
     );
+    let marks = marks(w);
+    let scratch = marks.behind(SCRATCH_AT);
     if r == 0 && answer[0] == 1 {
-        return solved(rt, cleared(s, 8 * x.len(), SCRATCH_AT, q));
+        let cleared = scratch.cleared(s, 8 * x.len());
+        return Outcome::Solved { cleared };
     }
-    refused(
-        rt,
-        r,
-        &answer,
-        kept(x, behind(m, right), q) && kept(s, SCRATCH_AT, q),
-    )
+    let nothing = marks.behind(behind(m, right)).kept(x) && scratch.kept(s);
+    refused(r, &answer, nothing)
 }

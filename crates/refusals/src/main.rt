@@ -8,57 +8,33 @@
 mod calls;
 mod table;
 
-ghost use Rattle.std.specs.Prelude.{◌<◌, ◌≤◌, IfOk};
-
+use calls::{Lengths, called};
 use std::io;
-use std::io::Read;
-use stored::next_record;
-use stored::room::word_room;
-use stored::tally::{Tally, Verdict, begun, damaged, tallied};
+use stored::Damaged;
+use stored::tally::{Compared, each_record};
+use table::{Given, head};
 
 // An error where a read or a write fails.
 fn main(rt: HostRuntime) -> io::Result<()> {
     let mut input = rt.stdin();
-    table::head(&rt)?;
-    let mut t = begun(&rt, &mut input)?;
-    while t.left > 0 {
-        t = next(&rt, &mut input, t)?;
+    head(&rt)?;
+    match each_record(&rt, &mut input, |w| row(&rt, w))? {
+        Ok(_) => Ok(()),
+        Err(damage) => println!(rt; "{damage}"),
     }
-    Ok(())
 }
 
-fn next<R: Read>(rt: &impl Print, input: &mut R, t: Tally) -> io::Result<Tally>
-    requires { 1 ≤ t.left }
-    ensures { IfOk result (λ r. r.left < t.left) }
-{
-    let mut w = word_room();
-    let r = next_record(input, &mut w)?;
-    let n = r.words;
-    if !r.whole {
-        return damaged(rt, t, r.bad);
-    }
-    let v = row(rt, &w[0..n])?;
-    tallied(rt, t, v)
-}
-
-// More than the buffers hold counts as damage.
-fn row(rt: &impl Print, w: &[u64]) -> io::Result<Verdict> {
-    if w.len() != 36 {
-        return Ok(Verdict::DamagedAt(0));
-    }
-    if w[11] > calls::LENT as u64 {
-        return Ok(Verdict::DamagedAt(12));
-    }
-    if w[12] > calls::LENT as u64 {
-        return Ok(Verdict::DamagedAt(13));
-    }
-    if w[13] > calls::LENT as u64 {
-        return Ok(Verdict::DamagedAt(14));
-    }
-    if w[14] > calls::SCRATCH as u64 {
-        return Ok(Verdict::DamagedAt(15));
-    }
-    table::given(rt, w)?;
-    calls::called(rt, w)?;
-    Ok(Verdict::Shown)
+// More than the buffers hold counts as damage. Nothing is compared.
+fn row(rt: &impl Print, w: &[u64]) -> io::Result<Result<Compared, Damaged>> {
+    let Some(w) = w.as_array::<36>() else {
+        return Ok(Err(Damaged(0)));
+    };
+    let lengths = match Lengths::read(w) {
+        Ok(lengths) => lengths,
+        Err(damaged) => return Ok(Err(damaged)),
+    };
+    let given = Given(w);
+    let outcome = called(w, lengths);
+    println!(rt; "{given}{outcome}")?;
+    Ok(Ok(Compared([true; 4])))
 }

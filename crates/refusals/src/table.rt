@@ -1,7 +1,8 @@
-// The table that is printed. Each function that prints gives an error where that fails.
-ghost use Rattle.std.specs.Prelude.{◌≡◌, ◌≤◌, length};
+// The table that is printed.
+ghost use Rattle.std.specs.Prelude.{◌≤◌};
 
-use std::io;
+use super::calls::Call;
+use std::{fmt, io};
 
 pub fn head(rt: &impl Print) -> io::Result<()> {
     println!(rt;
@@ -16,80 +17,107 @@ pub fn head(rt: &impl Print) -> io::Result<()> {
     )
 }
 
-// The words that the call takes.
-pub fn given(rt: &impl Print, w: &[u64]) -> io::Result<()>
-    requires { length w.now ≡ 36 }
-{
-    match w[0] {
-        0 => {
-            print!(rt; "start ")?;
-            columns(rt, w, 1, 13)?;
-            columns(rt, w, 14, 19)
+// The words that a call takes.
+#[derive(Clone, Copy)]
+pub struct Given<'a>(pub &'a [u64; 36]);
+
+impl fmt::Display for Given<'_> {
+    fn fmt<W: fmt::Write>(&self, f: &mut fmt::Formatter<W>) -> fmt::Result {
+        match Call::from(self.0[0]) {
+            Call::Start => {
+                write!(f, "start ")?;
+                self.columns(f, 1, 13)?;
+                self.columns(f, 14, 19)
+            }
+            Call::Resume => {
+                write!(f, "resume ")?;
+                self.columns(f, 1, 25)?;
+                self.columns(f, 35, 36)
+            }
+            Call::Predict => {
+                write!(f, "predict ")?;
+                self.columns(f, 1, 3)?;
+                self.columns(f, 11, 14)?;
+                self.columns(f, 15, 19)
+            }
+            Call::Solve => {
+                write!(f, "solve ")?;
+                self.columns(f, 1, 2)?;
+                self.columns(f, 5, 7)?;
+                self.columns(f, 11, 19)
+            }
         }
-        1 => {
-            print!(rt; "resume ")?;
-            columns(rt, w, 1, 25)?;
-            columns(rt, w, 35, 36)
+    }
+}
+
+impl Given<'_> {
+    // The first three settings and the value are bits.
+    fn columns<W: fmt::Write>(
+        self,
+        f: &mut fmt::Formatter<W>,
+        from: usize,
+        to: usize,
+    ) -> fmt::Result
+        requires { to ≤ 36 }
+    {
+        for i in from..to {
+            let n = self.0[i];
+            match i {
+                3..=5 | 15 => write!(f, "{n:016x} ")?,
+                _ => write!(f, "{n} ")?,
+            }
         }
-        2 => {
-            print!(rt; "predict ")?;
-            columns(rt, w, 1, 3)?;
-            columns(rt, w, 11, 14)?;
-            columns(rt, w, 15, 19)
+        Ok(())
+    }
+}
+
+// What a call came to. A number is one more than the last place that it wrote to in the scratch, or in the predictions.
+#[derive(Clone, Copy)]
+pub enum Outcome {
+    Ready(usize),
+    Pending {
+        nothing: bool,
+    },
+    Converged(usize),
+    Limit(usize),
+    Predicted(usize),
+    Solved {
+        cleared: bool,
+    },
+    Refused {
+        number: u64,
+        place: u64,
+        nothing: bool,
+    },
+    NoKind,
+}
+
+impl fmt::Display for Outcome {
+    fn fmt<W: fmt::Write>(&self, f: &mut fmt::Formatter<W>) -> fmt::Result {
+        match *self {
+            Outcome::Ready(n) => write!(f, "ready, written up to {n}"),
+            Outcome::Pending { nothing } => {
+                let what = what(nothing);
+                write!(f, "pending, {what} written")
+            }
+            Outcome::Converged(n) => write!(f, "ended converged, written up to {n}"),
+            Outcome::Limit(n) => write!(f, "ended limit, written up to {n}"),
+            Outcome::Predicted(n) => write!(f, "predicted, written up to {n}"),
+            Outcome::Solved { cleared: true } => write!(f, "solved, scratch cleared"),
+            Outcome::Solved { cleared: false } => write!(f, "solved, scratch not cleared"),
+            Outcome::Refused {
+                number,
+                place,
+                nothing,
+            } => {
+                let what = what(nothing);
+                write!(f, "refused {number} at {place}, {what} written")
+            }
+            Outcome::NoKind => write!(f, "an answer of no kind"),
         }
-        _ => {
-            print!(rt; "solve ")?;
-            columns(rt, w, 1, 2)?;
-            columns(rt, w, 5, 7)?;
-            columns(rt, w, 11, 19)
-        }
     }
 }
 
-// The first three settings and the value are bits.
-fn columns(rt: &impl Print, w: &[u64], from: usize, to: usize) -> io::Result<()>
-    requires w_len { length w.now ≡ 36 }
-    requires to_bound { to ≤ 36 }
-{
-    for i in from..to {
-        column(rt, w[i], 2 < i && i < 6 || i == 15)?;
-    }
-    Ok(())
-}
-
-fn column(rt: &impl Print, n: u64, bits: bool) -> io::Result<()> {
-    if bits {
-        return print!(rt; "{n:016x} ");
-    }
-    print!(rt; "{n} ")
-}
-
-pub fn wrote(rt: &impl Print, what: &str, n: usize) -> io::Result<()> {
-    println!(rt; "{what}, written up to {n}")
-}
-
-// The call returned the number that its answer has.
-pub fn refused(rt: &impl Print, returned: u64, answer: &[u64], nothing: bool) -> io::Result<()>
-    requires { length answer.now ≡ 7 }
-{
-    if answer[0] != 3 || answer[1] != returned {
-        return println!(rt; "an answer of no kind");
-    }
-    let at = answer[2];
-    print!(rt; "refused {returned} at {at}")?;
-    written(rt, nothing)
-}
-
-pub fn written(rt: &impl Print, nothing: bool) -> io::Result<()> {
-    if nothing {
-        return println!(rt; ", nothing written");
-    }
-    println!(rt; ", something written")
-}
-
-pub fn solved(rt: &impl Print, cleared: bool) -> io::Result<()> {
-    if cleared {
-        return println!(rt; "solved, scratch cleared");
-    }
-    println!(rt; "solved, scratch not cleared")
+fn what(nothing: bool) -> &'static str {
+    if nothing { "nothing" } else { "something" }
 }

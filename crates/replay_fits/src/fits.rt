@@ -1,135 +1,155 @@
 // Fits through the calls over words, each in one call, in budgets of 1 and in random budgets, on marked memory. The words are rows, columns, the
 // settings, the scratch that is needed, the answer as a call gives it (kind, refusal, place, the three counts, the intercept's bits) and the weights;
 // the numbers matrix and targets.
-ghost use Rattle.std.specs.Prelude.{◌≡◌, ◌+◌, ◌≤◌, length};
+ghost use Rattle.std.specs.Prelude.{◌≡◌, ◌≤◌, length};
 
 use c_api::{xangoravit_resume, xangoravit_start};
 use numbers::bits::bits_of;
-use stored::bits::{all, equal, same};
-use stored::memory::{MARK, cleared, fill, kept, unspoilt};
+use stored::Damaged;
+use stored::bits::{all, same};
+use stored::memory::{MARK, Marks};
 use stored::room::number_room;
-use stored::tally::Verdict;
+use stored::tally::Compared;
 
-// How the steps are dealt out: all in one call; a step to a call; budgets from 0 to 16, drawn at random.
-const WHOLE: u64 = 0;
+// What the weights are lent with.
+const UNWRITTEN: f64 = 7.5;
 
-const ONES: u64 = 1;
-
-const STREWN: u64 = 2;
-
-pub fn verdict(w: &[u64], x: &[f64], y: &[f64]) -> Verdict {
-    if w.len() < 18 {
-        return Verdict::DamagedAt(0);
-    }
-    if w.len() > 82 {
-        return Verdict::DamagedAt(0);
-    }
-    let whole = tried(w, x, y, WHOLE);
-    let ones = tried(w, x, y, ONES);
-    let strewn = tried(w, x, y, STREWN);
-    Verdict::Compared(whole, ones, strewn, true)
+#[derive(Clone, Copy)]
+struct Fit<'a> {
+    rows: usize,
+    columns: usize,
+    settings: &'a [u64],
+    x: &'a [f64],
+    y: &'a [f64],
+    // how much scratch is needed
+    needed: usize,
+    answer: &'a [u64],
+    weights: &'a [u64],
+    ghost settings_len: { length settings.now ≡ 8 },
+    ghost answer_len: { length answer.now ≡ 7 },
+    ghost weights_bound: { length weights.now ≤ 64 },
 }
 
-fn tried(w: &[u64], x: &[f64], y: &[f64], plan: u64) -> bool
-    requires in_bounds { 18 ≤ length w.now }
-    requires w_len_bound { length w.now ≤ 82 }
-{
-    let words = w[10] as usize;
-    if words > 20000 {
-        return false;
+// The steps are dealt out in three ways: all in one call; a step to a call; budgets from 0 to 16, drawn at random.
+pub fn verdict(w: &[u64], x: &[f64], y: &[f64]) -> Result<Compared, Damaged> {
+    if w.len() < 18 || w.len() > 82 {
+        return Err(Damaged(0));
     }
-    let p = w.len() - 18;
-    let mut space = number_room();
-    let mut weights = weights_room();
-    started(w, x, y, plan, &mut space[0..words + 8], &mut weights[0..p])
+    let fit = Fit {
+        rows: w[0] as usize,
+        columns: w[1] as usize,
+        settings: &w[2..10],
+        x,
+        y,
+        needed: w[10] as usize,
+        answer: &w[11..18],
+        weights: &w[18..],
+    };
+    let whole = 5100 * (w[5] % 1001);
+    Ok(Compared([
+        fit.tried(1, |_| whole),
+        fit.tried(1000000, |_| 1),
+        fit.tried(1000000, |seed| seed % 17),
+        true,
+    ]))
 }
 
-fn weights_room() -> [f64; 64]
-    ensures { 64 ≡ length result }
-{
-    [7.5; 64]
-}
-
-// A start that is refused leaves scratch and record as they were.
-fn started(w: &[u64], x: &[f64], y: &[f64], plan: u64, s: &mut [f64], weights: &mut [f64]) -> bool
-    requires { length w.now ≡ 18 + length weights.old }
-{
-    fill(s, 0, unspoilt());
-    let mut rec = [MARK; 16];
-    let mut answer = [MARK; 7];
-    let n = w[0] as usize;
-    let p = w[1] as usize;
-    if xangoravit_start(n, p, x, y, &w[2..10], s, &mut rec, &mut answer) != 0 {
-        let marks = [MARK; 16];
-        return equal(&answer, &w[11..18]) && equal(&rec, &marks) && kept(s, 0, unspoilt());
-    }
-    resumed(w, x, y, plan, s, weights, &mut rec, &mut answer)
-}
-
-fn resumed(
-    w: &[u64],
-    x: &[f64],
-    y: &[f64],
-    plan: u64,
-    s: &mut [f64],
-    weights: &mut [f64],
-    rec: &mut [u64],
-    answer: &mut [u64],
-) -> bool
-    requires w_len { length w.now ≡ 18 + length weights.old }
-    requires rec_len { length rec.old ≡ 16 }
-    requires answer_len { length answer.old ≡ 7 }
-{
-    let n = w[0] as usize;
-    let p = w[1] as usize;
-    let mut seed = w[16];
-    for i in 0..calls(plan) {
-        let b = budget(w, plan, seed);
-        let r = xangoravit_resume(n, p, x, y, &w[2..10], rec, s, weights, b, answer);
-        if answer[0] != 0 {
-            return agrees(w, r, s, weights, rec, answer);
-        }
-        if !untouched(weights) {
+impl Fit<'_> {
+    // In so many calls at most, each with a budget that is worked out of a number that is drawn for it.
+    fn tried<F: Fn(u64) -> u64>(self, calls: u64, budget: F) -> bool
+        requires { F.IsAlwaysCallable budget }
+    {
+        if self.needed > 20000 {
             return false;
         }
-        seed = next_seed(seed);
+        let mut space = number_room();
+        let mut weights = [UNWRITTEN; 64];
+        let s = &mut space[..self.needed + 8];
+        let weights = &mut weights[..self.weights.len()];
+        self.started(calls, budget, s, weights)
     }
-    false
-}
 
-fn untouched(weights: &[f64]) -> bool {
-    all(weights, 0, weights.len(), bits_of(7.5))
-}
-
-fn calls(plan: u64) -> u64 {
-    if plan == WHOLE { 1 } else { 1000000 }
-}
-
-fn budget(w: &[u64], plan: u64, seed: u64) -> u64
-    requires { 18 ≤ length w.now }
-{
-    if plan == WHOLE {
-        return 5100 * (w[5] % 1001);
+    // A start that is refused leaves scratch and record as they were.
+    fn started<F: Fn(u64) -> u64>(
+        self,
+        calls: u64,
+        budget: F,
+        s: &mut [f64],
+        weights: &mut [f64],
+    ) -> bool
+        requires callable { F.IsAlwaysCallable budget }
+        requires weights_len { length weights.old ≡ length self.weights.now }
+    {
+        let marks = Marks::default();
+        marks.fill(s);
+        let mut rec = [MARK; 16];
+        let mut answer = [MARK; 7];
+        if self.start(s, &mut rec, &mut answer) != 0 {
+            return answer.as_slice() == self.answer && rec == [MARK; 16] && marks.kept(s);
+        }
+        let mut seed = self.answer[5];
+        for _ in 0..calls {
+            let r = self.resume(&mut rec, s, weights, budget(seed), &mut answer);
+            if answer[0] != 0 {
+                return answer.as_slice() == self.answer && self.ended(r, s, weights, &rec);
+            }
+            if !all(weights, bits_of(UNWRITTEN)) {
+                return false;
+            }
+            seed = next_seed(seed);
+        }
+        false
     }
-    if plan == ONES {
-        return 1;
+
+    fn start(self, s: &mut [f64], rec: &mut [u64], answer: &mut [u64]) -> u64 {
+        let Fit {
+            rows,
+            columns,
+            settings,
+            x,
+            y,
+            ..
+        } = self;
+        xangoravit_start(rows, columns, x, y, settings, s, rec, answer)
     }
-    seed % 17
+
+    fn resume(
+        self,
+        rec: &mut [u64],
+        s: &mut [f64],
+        weights: &mut [f64],
+        budget: u64,
+        answer: &mut [u64],
+    ) -> u64 {
+        let Fit {
+            rows,
+            columns,
+            settings,
+            x,
+            y,
+            ..
+        } = self;
+        xangoravit_resume(
+            rows, columns, x, y, settings, rec, s, weights, budget, answer,
+        )
+    }
+
+    // The call returned the refusal's number, or 0. The record has ended, with the answer's counts and fixed values; the needed words of the scratch are +0,
+    // and those behind them as they were.
+    fn ended(self, r: u64, s: &[f64], weights: &[f64], rec: &[u64; 16]) -> bool
+        requires { length weights.now ≡ length self.weights.now }
+    {
+        let mut ended = [0; 16];
+        ended[0] = 3;
+        ended[3..6].copy_from_slice(&self.answer[3..6]);
+        r == self.answer[1]
+            && *rec == ended
+            && same(weights, self.weights)
+            && Marks::default().cleared(s, self.needed)
+    }
 }
 
 // Park and Miller's generator, kept from 0.
 fn next_seed(seed: u64) -> u64 {
     seed % 2147483647 * 48271 % 2147483647 + 1
-}
-
-// The call returned the refusal's number, or 0. The record has ended, with the answer's counts and fixed values; the needed words of the scratch are +0, and those behind them as they were.
-fn agrees(w: &[u64], r: u64, s: &[f64], weights: &[f64], rec: &[u64], answer: &[u64]) -> bool
-    requires { length w.now ≡ 18 + length weights.now }
-{
-    let ended = [3, 0, 0, w[14], w[15], w[16], 0, 0, 0, 0, 0, 0, 0, 0, 0, 0];
-    r == w[12]
-        && equal(answer, &w[11..18])
-        && equal(rec, &ended)
-        && same(weights, &w[18..])
-        && cleared(s, w[10] as usize, 0, unspoilt())
 }

@@ -1,113 +1,92 @@
 // Moves to the other version, into a marked output. The words are the direction (1 up, 2 down), the family that is given, the output's length; the answer
 // (refusal, place, bytes, family); the sheet's bytes, and those that are due, none where it is refused, each with their number in front.
-ghost use Rattle.std.specs.Prelude.{◌≡◌, ◌*◌, ◌≤◌, length};
+ghost use Rattle.std.specs.Prelude.{◌≤◌};
 
-use super::outputs::{ROOM, kept, laid, room};
-use refusal::{number, place};
+use super::outputs::{ROOM, kept, room};
+use refusal::{Refusal, number, place};
 use sheet_move::{Moved, move_down, move_up};
-use stored::bytes::{unpack, words_for};
-use stored::tally::Verdict;
+use stored::bytes::{Packed, words_for};
+use stored::tally::Compared;
+use stored::{Damaged, length_in};
 
-const UP: u64 = 1;
-
-const DOWN: u64 = 2;
-
-pub fn verdict(w: &[u64]) -> Verdict {
-    if w.len() < 9 {
-        return Verdict::DamagedAt(0);
-    }
-    let direction = w[0];
-    if direction < UP {
-        return Verdict::DamagedAt(4);
-    }
-    if direction > DOWN {
-        return Verdict::DamagedAt(4);
-    }
-    let family = w[1];
-    if family > 0xffff_ffff {
-        return Verdict::DamagedAt(5);
-    }
-    let size = w[2] as usize;
-    if size > ROOM {
-        return Verdict::DamagedAt(6);
-    }
-    parted(direction, family as u32, size, &w[3..7], &w[7..])
+#[derive(Clone, Copy)]
+enum Direction {
+    Up,
+    Down,
 }
 
-// The bytes of the sheet, and those that are due.
-fn parted(direction: u64, family: u32, size: usize, answer: &[u64], w: &[u64]) -> Verdict
-    requires size_bound { size ≤ 82000 }
-    requires answer_len { length answer.now ≡ 4 }
-    requires in_bounds { 2 ≤ length w.now }
-{
-    let n = w[0] as usize;
-    if n > 65536 {
-        return Verdict::DamagedAt(11);
-    }
-    let k = words_for(n);
-    if w.len() < k + 2 {
-        return Verdict::DamagedAt(0);
-    }
-    let m = w[k + 1] as usize;
-    if m > 65536 {
-        return Verdict::DamagedAt(k as u64 + 12);
-    }
-    if w.len() != k + 2 + words_for(m) {
-        return Verdict::DamagedAt(0);
-    }
-    tried(
-        direction,
-        family,
-        size,
-        answer,
-        &w[1..k + 1],
-        n,
-        &w[k + 2..],
-        m,
-    )
-}
-
-fn tried(
-    direction: u64,
+#[derive(Clone, Copy)]
+struct Move<'a> {
+    direction: Direction,
     family: u32,
+    // the output's length
     size: usize,
-    answer: &[u64],
-    sheet: &[u64],
-    n: usize,
-    due: &[u64],
-    m: usize,
-) -> Verdict
-    requires size_bound { size ≤ 82000 }
-    requires answer_len { length answer.now ≡ 4 }
-    requires n_bound { n ≤ 65536 }
-    requires n_bound_2 { n ≤ 8 * length sheet.now }
-    requires m_bound { m ≤ 8 * length due.now }
-{
-    let mut large = [0u8; 65536];
-    let mut space = room();
-    let bytes = &mut large[0..n];
-    let out = &mut space[0..size];
-    unpack(sheet, bytes);
-    let r = moved(direction, family, bytes, out);
-    Verdict::Compared(answered(r, answer), laid(out, due, m), kept(out, m), true)
+    answer: &'a [u64],
+    sheet: Packed<'a>,
+    due: Packed<'a>,
+    ghost size_bound: { size ≤ 82000 },
+    ghost sheet_bound: { sheet.len ≤ 65536 },
 }
 
-fn moved(direction: u64, family: u32, sheet: &[u8], out: &mut [u8]) -> Moved {
-    if direction == UP {
-        return move_up(sheet, family, out);
+pub fn verdict(w: &[u64]) -> Result<Compared, Damaged> {
+    let call = Move::read(w)?;
+    Ok(call.tried())
+}
+
+impl<'a> Move<'a> {
+    fn read(w: &'a [u64]) -> Result<Move<'a>, Damaged> {
+        if w.len() < 9 {
+            return Err(Damaged(0));
+        }
+        let direction = match w[0] {
+            1 => Direction::Up,
+            2 => Direction::Down,
+            _ => return Err(Damaged(4)),
+        };
+        let Ok(family) = u32::try_from(w[1]) else {
+            return Err(Damaged(5));
+        };
+        let size = length_in(w[2], ROOM, 6)?;
+        let answer = &w[3..7];
+        let (sheet, w) = Packed::split(&w[7..], 65536, 11)?;
+        let (due, w) = Packed::split(w, 65536, words_for(sheet.len) as u64 + 12)?;
+        if !w.is_empty() {
+            return Err(Damaged(0));
+        }
+        Ok(Move {
+            direction,
+            family,
+            size,
+            answer,
+            sheet,
+            due,
+        })
     }
-    move_down(sheet, out)
+
+    // The answer; the bytes in front; those behind them.
+    fn tried(self) -> Compared {
+        let mut large = [0; 65536];
+        let mut space = room();
+        let sheet = &mut large[..self.sheet.len];
+        let out = &mut space[..self.size];
+        self.sheet.unpack(sheet);
+        let r = match self.direction {
+            Direction::Up => move_up(sheet, self.family, out),
+            Direction::Down => move_down(sheet, out),
+        };
+        Compared([
+            said(r).as_slice() == self.answer,
+            self.due.begins(out),
+            kept(out, self.due.len),
+            true,
+        ])
+    }
 }
 
-fn answered(r: Moved, w: &[u64]) -> bool
-    requires { length w.now ≡ 4 }
-{
+// An answer in words, as it is stored.
+fn said(r: Result<Moved, Refusal>) -> [u64; 4] {
     match r {
-        Moved::Sheet(n, family) => {
-            w[0] == 0 && w[1] == 0 && n as u64 == w[2] && family as u64 == w[3]
-        }
-        Moved::Refused(q) => {
-            number(q) == w[0] && place(q) as u64 == w[1] && w[2] == 0 && w[3] == 0
-        }
+        Ok(m) => [0, 0, m.bytes as u64, u64::from(m.family)],
+        Err(q) => [number(q), place(q) as u64, 0, 0],
     }
 }

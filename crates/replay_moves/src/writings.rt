@@ -1,156 +1,121 @@
 // Sheets written, into a marked output. The words are version, family, the output's length; the answer (refusal, place, bytes); rows, features, the settings;
 // sources and targets, each with their number in front; and the bytes that are due, none where it is refused, with theirs. The numbers are features and scores.
-ghost use Rattle.std.specs.Prelude.{◌≡◌, ◌+◌, ◌*◌, ◌≤◌, length};
+ghost use Rattle.std.specs.Prelude.{◌≡◌, ◌≤◌, length};
 
-use super::outputs::{ROOM, kept, laid, room};
+use super::outputs::{ROOM, kept, room};
 use c_values::settings_from;
-use refusal::{number, place};
+use refusal::{Refusal, number, place};
+use settings::Settings;
 use sheet_front::Version;
-use sheet_write::{Written, write_sheet};
-use stored::bytes::words_for;
-use stored::tally::Verdict;
+use sheet_write::write_sheet;
+use stored::bytes::Packed;
+use stored::tally::Compared;
+use stored::{Damaged, counted, length_in};
 
-pub fn verdict(w: &[u64], x: &[f64], y: &[f64]) -> Verdict {
-    if w.len() < 19 {
-        return Verdict::DamagedAt(0);
-    }
-    let family = w[1];
-    if family > 0xffff_ffff {
-        return Verdict::DamagedAt(5);
-    }
-    let size = w[2] as usize;
-    if size > ROOM {
-        return Verdict::DamagedAt(6);
-    }
-    match w[0] {
-        1 => parted(Version::One, size, &w[3..16], &w[16..], x, y),
-        2 => parted(Version::Two(family as u32), size, &w[3..16], &w[16..], x, y),
-        _ => Verdict::DamagedAt(4),
-    }
-}
-
-// Sources and targets, and the bytes that are due.
-fn parted(v: Version, size: usize, call: &[u64], w: &[u64], x: &[f64], y: &[f64]) -> Verdict
-    requires size_bound { size ≤ 82000 }
-    requires call_len { length call.now ≡ 13 }
-    requires in_bounds { 3 ≤ length w.now }
-{
-    let s = w[0] as usize;
-    if s > 4096 {
-        return Verdict::DamagedAt(20);
-    }
-    if w.len() < s + 3 {
-        return Verdict::DamagedAt(0);
-    }
-    let t = w[s + 1] as usize;
-    if t > 4096 {
-        return Verdict::DamagedAt(s as u64 + 21);
-    }
-    let e = s + t + 2;
-    if w.len() < e + 1 {
-        return Verdict::DamagedAt(0);
-    }
-    let m = w[e] as usize;
-    if m > 65536 {
-        return Verdict::DamagedAt(e as u64 + 20);
-    }
-    if w.len() != e + 1 + words_for(m) {
-        return Verdict::DamagedAt(0);
-    }
-    listed(
-        v,
-        size,
-        call,
-        &w[1..s + 1],
-        &w[s + 2..e],
-        x,
-        y,
-        &w[e + 1..],
-        m,
-    )
-}
-
-fn listed(
-    v: Version,
+#[derive(Clone, Copy)]
+struct Writing<'a> {
+    version: Version,
+    // the output's length
     size: usize,
-    call: &[u64],
-    sources: &[u64],
-    targets: &[u64],
-    x: &[f64],
-    y: &[f64],
-    due: &[u64],
-    m: usize,
-) -> Verdict
-    requires size_bound { size ≤ 82000 }
-    requires call_len { length call.now ≡ 13 }
-    requires sources_len_bound { length sources.now ≤ 4096 }
-    requires targets_len_bound { length targets.now ≤ 4096 }
-    requires m_bound { m ≤ 8 * length due.now }
-{
-    let s = sources.len();
-    let t = targets.len();
-    let mut one = claim_room();
-    let mut two = claim_room();
-    let first = &mut one[0..s];
-    let second = &mut two[0..t];
-    if !claims(sources, first) {
-        return Verdict::DamagedAt(20);
-    }
-    if !claims(targets, second) {
-        return Verdict::DamagedAt(s as u64 + 21);
-    }
-    tried(v, size, call, first, second, x, y, due, m)
+    answer: &'a [u64],
+    rows: usize,
+    features: usize,
+    settings: Settings,
+    sources: &'a [u64],
+    targets: &'a [u64],
+    due: Packed<'a>,
+    ghost size_bound: { size ≤ 82000 },
+    ghost sources_bound: { length sources.now ≤ 4096 },
+    ghost targets_bound: { length targets.now ≤ 4096 },
 }
 
-fn claim_room() -> [u16; 4096]
-    ensures { 4096 ≡ length result }
-{
-    [0; 4096]
+pub fn verdict(w: &[u64], x: &[f64], y: &[f64]) -> Result<Compared, Damaged> {
+    let call = Writing::read(w)?;
+    call.tried(x, y)
 }
 
-// Not where a word is none of a claim's.
-fn claims(w: &[u64], out: &mut [u16]) -> bool
-    requires { length w.now ≡ length out.old }
-{
-    for i in 0..w.len() {
-        let c = w[i];
-        if c > 65535 {
-            return false;
+impl<'a> Writing<'a> {
+    fn read(w: &'a [u64]) -> Result<Writing<'a>, Damaged> {
+        if w.len() < 19 {
+            return Err(Damaged(0));
         }
-        out[i] = c as u16;
+        let Ok(family) = u32::try_from(w[1]) else {
+            return Err(Damaged(5));
+        };
+        let size = length_in(w[2], ROOM, 6)?;
+        let version = match w[0] {
+            1 => Version::One,
+            2 => Version::Two(family),
+            _ => return Err(Damaged(4)),
+        };
+        let (sources, rest) = counted(&w[16..], 4096, 20)?;
+        if rest.len() < 2 {
+            return Err(Damaged(0));
+        }
+        let (targets, rest) = counted(rest, 4096, sources.len() as u64 + 21)?;
+        let at = (sources.len() + targets.len()) as u64 + 22;
+        let (due, rest) = Packed::split(rest, 65536, at)?;
+        if !rest.is_empty() {
+            return Err(Damaged(0));
+        }
+        Ok(Writing {
+            version,
+            size,
+            answer: &w[3..6],
+            rows: w[6] as usize,
+            features: w[7] as usize,
+            settings: settings_from(&w[8..16]),
+            sources,
+            targets,
+            due,
+        })
     }
-    true
+
+    // The answer; the bytes in front; those behind them.
+    fn tried(self, x: &[f64], y: &[f64]) -> Result<Compared, Damaged> {
+        let mut one = [0; 4096];
+        let mut two = [0; 4096];
+        let sources = claims(self.sources, &mut one, 20)?;
+        let targets = claims(self.targets, &mut two, self.sources.len() as u64 + 21)?;
+        let mut space = room();
+        let out = &mut space[..self.size];
+        let r = write_sheet(
+            self.version,
+            self.rows,
+            self.features,
+            self.settings,
+            sources,
+            targets,
+            x,
+            y,
+            out,
+        );
+        Ok(Compared([
+            said(r).as_slice() == self.answer,
+            self.due.begins(out),
+            kept(out, self.due.len),
+            true,
+        ]))
+    }
 }
 
-fn tried(
-    v: Version,
-    size: usize,
-    call: &[u64],
-    sources: &[u16],
-    targets: &[u16],
-    x: &[f64],
-    y: &[f64],
-    due: &[u64],
-    m: usize,
-) -> Verdict
-    requires size_bound { size ≤ 82000 }
-    requires call_len { length call.now ≡ 13 }
-    requires m_bound { m ≤ 8 * length due.now }
+// The words as claims; they are bad, and said to be so at the place `at`, where one is none of a claim's.
+fn claims<'a>(w: &[u64], out: &'a mut [u16], at: u64) -> Result<&'a [u16], Damaged>
+    requires { length w.now ≤ length out.old }
 {
-    let mut space = room();
-    let out = &mut space[0..size];
-    let n = call[3] as usize;
-    let p = call[4] as usize;
-    let st = settings_from(&call[5..13]);
-    let r = write_sheet(v, n, p, st, sources, targets, x, y, out);
-    Verdict::Compared(answered(r, call), laid(out, due, m), kept(out, m), true)
+    for (i, word) in w.iter().enumerate() {
+        let Ok(claim) = u16::try_from(*word) else {
+            return Err(Damaged(at));
+        };
+        out[i] = claim;
+    }
+    Ok(&out[..w.len()])
 }
 
-fn answered(r: Written, w: &[u64]) -> bool
-    requires { length w.now ≡ 13 }
-{
+// An answer in words, as it is stored.
+fn said(r: Result<usize, Refusal>) -> [u64; 3] {
     match r {
-        Written::Sheet(n) => w[0] == 0 && w[1] == 0 && n as u64 == w[2],
-        Written::Refused(q) => number(q) == w[0] && place(q) as u64 == w[1] && w[2] == 0,
+        Ok(n) => [0, 0, n as u64],
+        Err(q) => [number(q), place(q) as u64, 0],
     }
 }

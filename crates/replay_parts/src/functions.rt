@@ -2,22 +2,22 @@
 use logarithm::ln;
 use numbers::bits::{bits_of, of_bits};
 use numbers::square_root::root;
-use stored::tally::Verdict;
+use stored::Damaged;
+use stored::tally::Compared;
 
-pub fn root_verdict(w: &[u64]) -> Verdict {
-    if w.len() != 2 {
-        return Verdict::DamagedAt(0);
-    }
-    compared(root(of_bits(w[0])), w[1])
+pub fn root_verdict(w: &[u64]) -> Result<Compared, Damaged> {
+    compared(w, root)
 }
 
-pub fn logarithm_verdict(w: &[u64]) -> Verdict {
-    if w.len() != 2 {
-        return Verdict::DamagedAt(0);
-    }
-    compared(ln(of_bits(w[0])), w[1])
+pub fn logarithm_verdict(w: &[u64]) -> Result<Compared, Damaged> {
+    compared(w, ln)
 }
 
-fn compared(x: f64, wanted: u64) -> Verdict {
-    Verdict::Compared(bits_of(x) == wanted, true, true, true)
+fn compared<F: Fn(f64) -> f64>(w: &[u64], f: F) -> Result<Compared, Damaged>
+    requires { F.IsAlwaysCallable f }
+{
+    let [x, wanted] = w else {
+        return Err(Damaged(0));
+    };
+    Ok(Compared::one(bits_of(f(of_bits(*x))) == *wanted))
 }

@@ -31,48 +31,35 @@ pub struct Terms {
 }
 
 // Whether each setting is in its range; a NaN never is. Refusal 3 where not.
+#[tactic(auto, unfolding(crate::specs::Settings::allowed_of))]
 pub fn allowed(st: Settings) -> bool
     ensures { result ≡ allowed_of st }
 {
-    if !within(st.alpha, 1000000.0) {
-        return false;
-    }
-    if !within(st.l1_ratio, 1.0) {
-        return false;
-    }
-    if !within(st.tol, 1.7976931348623157e308) {
-        return false;
-    }
-    if st.max_iter > 1000 {
-        return false;
-    }
-    panels(st)
+    within(st.alpha, 1000000.0)
+        && within(st.l1_ratio, 1.0)
+        && within(st.tol, 1.7976931348623157e308)
+        && st.max_iter <= 1000
+        && panels(st)
 }
 
 // From 0 to `most`; a NaN is not.
+#[tactic(auto, unfolding(crate::specs::Settings::range_of))]
 fn within(x: f64, most: f64) -> bool
     ensures { result ≡ range_of x most }
 {
-    if x >= 0.0 { x <= most } else { false }
+    x >= 0.0 && x <= most
 }
 
 // R and C have ranges only where the fit is lazy.
+#[tactic(auto, unfolding(crate::specs::Settings::panels_of))]
 fn panels(st: Settings) -> bool
     ensures { result ≡ panels_of st }
 {
-    if !st.lazy {
-        return true;
+    if st.lazy {
+        1 <= st.panel_rows && st.panel_rows <= 256 && 1 <= st.panel_cols && st.panel_cols <= 32
+    } else {
+        true
     }
-    if st.panel_rows < 1 {
-        return false;
-    }
-    if st.panel_rows > 256 {
-        return false;
-    }
-    if st.panel_cols < 1 {
-        return false;
-    }
-    st.panel_cols <= 32
 }
 
 // What scales the design and then the weights.
@@ -90,10 +77,10 @@ pub fn terms_of(st: Settings, n: usize) -> Terms
     let rows = float_of(n);
     let l1 = st.alpha * st.l1_ratio * rows;
     let l2 = st.alpha * (1.0 - st.l1_ratio) * rows;
-    let g = gamma(l2);
+    let gamma = gamma(l2);
     Terms {
-        gamma: g,
-        padding: g * root(l2),
-        lambda: maximum(l1 * g, 2.220446049250313e-16),
+        gamma,
+        padding: gamma * root(l2),
+        lambda: maximum(l1 * gamma, 2.220446049250313e-16),
     }
 }

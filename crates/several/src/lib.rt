@@ -7,7 +7,10 @@ ghost use Rattle.arrays.specs.Part.{part, put, tab};
 ghost use Rattle.arrays.specs.Sums.{◌!◌, product_of};
 ghost use Rattle.several.specs.Several.{spread_of, added_of, Four};
 
+use std::array;
+
 // Eight sums of products side by side, so that none waits for another: sum k is of the n elements of x from a + k * apart. Each has its own order, from +0.
+#[tactic(auto, using(crate::proofs::Several::few))]
 pub fn eight(x: &[f64], a: usize, apart: usize, y: &[f64], b: usize, n: usize) -> [f64; 8]
     requires n_in_bounds { a + 7 * apart + n ≤ length x.now }
     requires n_in_bounds_2 { b + n ≤ length y.now }
@@ -24,12 +27,13 @@ pub fn eight(x: &[f64], a: usize, apart: usize, y: &[f64], b: usize, n: usize) -
 }
 
 // Eight numbers, `apart` from each other.
+#[tactic(auto, using(crate::proofs::Several::few))]
 pub fn put_eight(s: &mut [f64], out: usize, apart: usize, t: [f64; 8])
     requires { out + 7 * apart < length s.old }
     ensures { s.new ≡ spread_of s.old out apart (λ k. t ! k) 8 }
 {
-    for k in 0..8 {
-        s[out + k * apart] = t[k];
+    for (k, v) in t.iter().enumerate() {
+        s[out + k * apart] = *v;
     }
 }
 
@@ -38,14 +42,11 @@ pub fn four_at(s: &[f64], a: usize, apart: usize) -> [f64; 4]
     requires { a + 3 * apart < length s.now }
     ensures { result ≡ tab (λ k. s.now ! (a + k * apart)) 4 }
 {
-    let mut x = [0.0; 4];
-    for k in 0..4 {
-        x[k] = s[a + k * apart];
-    }
-    x
+    array::from_fn(|k| s[a + k * apart])
 }
 
 // The products of four numbers with the elements of four vectors, added to n sums in turn: each sum is read and written once for the four.
+#[tactic(auto, using(crate::proofs::Several::few))]
 fn add_products(s: &mut [f64], out: usize, x: [f64; 4], r: usize, apart: usize, n: usize)
     requires { Four s.old out r apart n }
     ensures { s.new ≡ put s.old out (tab (added_of s.old out s.old (λ k. x ! k) r apart 4) n) }
@@ -70,6 +71,7 @@ pub fn add_four(s: &mut [f64], out: usize, l: usize, by: usize, r: usize, apart:
 }
 
 // The same with four other numbers for the first n of t besides: each element of the vectors is read once for both.
+#[tactic(auto, using(crate::proofs::Several::few))]
 fn add_products_both(
     s: &mut [f64],
     out: usize,

@@ -1,5 +1,7 @@
 -- What cancelled rows change: nothing where there are none, nothing by their features, nothing against a sheet without them, and 1 where no row remains.
 -- Assumes nothing.
+use Rattle.refusal.specs.declared.Refusal.{Refusal}
+use Rattle.std.specs.Prelude.{Err, Ok, Result}
 use mathlib.Core.Path.{◌≡◌, refl, sym, ap, ◌∙◌}
 use mathlib.Core.List.{List}
 use Prim.Native.Nat.{ℕ, ◌+◌, ◌*◌, ◌≤◌, ◌<◌}
@@ -17,8 +19,6 @@ use Rattle.big_endian.specs.Bytes.{big_endian, float_at}
 use Rattle.big_endian.proofs.Bytes.{same_bytes}
 use Rattle.sheet_front.specs.Front.{version_of, body_at, body_of}
 use Rattle.sheet_header.specs.declared.Header.{Header}
-use Rattle.sheet_header.specs.declared.Read.{Read}
-use Rattle.sheet_header.specs.declared.Read.TheVariants.{Sheet, Refused}
 use Rattle.sheet_header.specs.Header.{row_at, body_check, header_of, accept_check, header_check, header_read, Said.refused, said}
 use Rattle.sheet.specs.Rows.{source_of, target_of, feature_of, score_of, score_bits, rows_from, remaining, matrix_of, targets_of}
 use Rattle.sheet.specs.Sheet.{body_rows, rows_read, body_read, by_count, sheet_of}
@@ -43,7 +43,7 @@ no-cancelled b p n h =
     )
 
 -- where every target is 0 and nothing before 1 refuses the sheet: 1, and nothing is written
-pub none-remains : (b : List ℕ) (R C : ℕ) (x y : List Float) {r : Read} {x' y' : List Float} → Reads b R C x y r x' y' → BytesFine b
+pub none-remains : (b : List ℕ) (R C : ℕ) (x y : List Float) {r : Result Header Refusal} {x' y' : List Float} → Reads b R C x y r x' y' → BytesFine b
     → ((i : ℕ) → i < rows_in b → target_of (body_of b) (columns-in b) i ≡ 0) → (said r ≡ refused 1 0) × (x' ≡ x) × (y' ≡ y)
 none-remains b R C x y c w h =
     let e : rows_left b ≡ 0 = ap length (none-remain (body_of b) (columns-in b) (rows_in b) (λ i l. eq-eqb _ 0 (h i l))) in
@@ -56,9 +56,9 @@ one-outcome : (b b' : List ℕ) (R C : ℕ) → rows_read b R C ≡ rows_read b'
     → (x y : List Float) → sheet_of b R C x y ≡ sheet_of b' R C x y
 unfolding sheet_of body_read
 one-outcome b b' R C e m t x y = rw e (go (rows_read b' R C)) where
-  go : (o : Read) → by_count o (body_of b) x y ≡ by_count o (body_of b') x y
-  go (Refused r) = refl
-  go (Sheet h) = rw (m, t)
+  go : (o : Result Header Refusal) → by_count o (body_of b) x y ≡ by_count o (body_of b') x y
+  go (Err r) = refl
+  go (Ok h) = rw (m, t)
 
 -- ---- a sheet, and one that has those of its rows alone that remain
 

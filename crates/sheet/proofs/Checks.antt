@@ -1,4 +1,5 @@
 -- The refusals of the rows and of the lent slices as what holds and not as tests, and each test by them. Assumes nothing.
+use Rattle.std.specs.Prelude.{Result, ⊤, Ok, Err}
 use mathlib.Core.Path.{◌≡◌, refl, sym, ◌∙◌}
 use mathlib.Core.Logic.{◌⊎◌, inl, inr}
 use mathlib.Core.Bool.{Bool, true, false, ◌&&◌, ◌||◌}
@@ -11,8 +12,6 @@ use lib.Dec.{ltb, eqb}
 use borrow.Author.Tests.{ltb-true, leb-true, eqb-true, lt-ltb, le-leb, eq-eqb}
 use Rattle.refusal.specs.declared.Refusal.{Refusal}
 use Rattle.refusal.specs.declared.Refusal.TheVariants.{Size, Length, Claim, Pair}
-use Rattle.refusal.specs.declared.Checked.{Checked}
-use Rattle.refusal.specs.declared.Checked.TheVariants.{Fine, Bad}
 use Rattle.refusal.proofs.Asking.{refuted, known_by, both_true, ask-fine}
 use Rattle.refusal.specs.Sizes.{in_size}
 use Rattle.refusal.proofs.Sizes.{InSize, size-good, size_of}
@@ -137,15 +136,15 @@ module _ (s t w : ℕ → ℕ) where
     more (inl f) (yes c) (yes r) = inl (one_more f c r)
 
   -- a row alone
-  row_fine : (i : ℕ) → ClaimsAt s t w i → RisesAt s t i → pairs_from s t w 1 i ≡ Fine
+  row_fine : (i : ℕ) → ClaimsAt s t w i → RisesAt s t i → pairs_from s t w 1 i ≡ Ok tt
   unfolding pairs_from
   row_fine i c r = rw (claims-good _ _ _ c, rises-good i r)
 
-  row-claim : (i : ℕ) → (ClaimsAt s t w i → ⊥) → pairs_from s t w 1 i ≡ Bad (Claim i)
+  row-claim : (i : ℕ) → (ClaimsAt s t w i → ⊥) → pairs_from s t w 1 i ≡ Err (Claim i)
   unfolding pairs_from
   row-claim i h = rw (refuted (claims_fine (s i) (t i) (w i)) (λ e. h (claims-of _ _ _ e)))
 
-  row-pair : (i : ℕ) → ClaimsAt s t w i → (RisesAt s t i → ⊥) → pairs_from s t w 1 i ≡ Bad (Pair i)
+  row-pair : (i : ℕ) → ClaimsAt s t w i → (RisesAt s t i → ⊥) → pairs_from s t w 1 i ≡ Err (Pair i)
   unfolding pairs_from
   row-pair i c h = rw (claims-good _ _ _ c, refuted (rises s t i) (λ e. h (rises-of i e)))
 
@@ -160,16 +159,16 @@ module _ (s t w : ℕ → ℕ) where
         rows-passed i (omega arith) (λ j l. f j (omega arith))
         ∙ rw (← add-one i) (row-passed s t w n i h (pairs_from s t w 1 i) refl (row_fine i row.0 row.1))
 
-    first-bad : (i : ℕ) → i < n → FineBefore s t w i → (q : Refusal) → pairs_from s t w 1 i ≡ Bad q → pairs_from s t w n 0 ≡ Bad q
+    first-bad : (i : ℕ) → i < n → FineBefore s t w i → (q : Refusal) → pairs_from s t w 1 i ≡ Err q → pairs_from s t w n 0 ≡ Err q
     first-bad i h f q e = rows-passed i (omega arith) f ∙ row-refused s t w n i h (pairs_from s t w 1 i) refl e ∙ e
 
-    pub bad-claim : (i : ℕ) → i < n → FineBefore s t w i → (ClaimsAt s t w i → ⊥) → pairs_from s t w n 0 ≡ Bad (Claim i)
+    pub bad-claim : (i : ℕ) → i < n → FineBefore s t w i → (ClaimsAt s t w i → ⊥) → pairs_from s t w n 0 ≡ Err (Claim i)
     bad-claim i h f c = first-bad i h f (Claim i) (row-claim i c)
 
-    pub bad-pair : (i : ℕ) → i < n → FineBefore s t w i → ClaimsAt s t w i → (RisesAt s t i → ⊥) → pairs_from s t w n 0 ≡ Bad (Pair i)
+    pub bad-pair : (i : ℕ) → i < n → FineBefore s t w i → ClaimsAt s t w i → (RisesAt s t i → ⊥) → pairs_from s t w n 0 ≡ Err (Pair i)
     bad-pair i h f c r = first-bad i h f (Pair i) (row-pair i c r)
 
-    pub good-rows : FineBefore s t w n → pairs_from s t w n 0 ≡ Fine
+    pub good-rows : FineBefore s t w n → pairs_from s t w n 0 ≡ Ok tt
     unfolding pairs_from
     good-rows f =
         let e : n - n ≡ 0 = omega arith in
@@ -197,18 +196,18 @@ module _ (n p xl yl : ℕ) where
   pub lengths-known : Dec (Lengths n p xl yl)
   lengths-known = known_by length-of length-good
 
-  pub lengths-fine : (k : Checked) → k ≡ room_check n p xl yl → k ≡ Fine → Lengths n p xl yl
+  pub lengths-fine : (k : Result ⊤ Refusal) → k ≡ room_check n p xl yl → k ≡ Ok tt → Lengths n p xl yl
   unfolding room_check
   lengths-fine k e f = length-of (ask-fine length-test Length _ (ask-fine (in_size n p) Size _ (sym e ∙ f)).1).0
 
-  pub bad-size : (InSize n p → ⊥) → room_check n p xl yl ≡ Bad Size
+  pub bad-size : (InSize n p → ⊥) → room_check n p xl yl ≡ Err Size
   unfolding room_check
   bad-size h = rw (refuted (in_size n p) (λ t. h (size_of n p t)))
 
-  pub bad-length : InSize n p → (Lengths n p xl yl → ⊥) → room_check n p xl yl ≡ Bad Length
+  pub bad-length : InSize n p → (Lengths n p xl yl → ⊥) → room_check n p xl yl ≡ Err Length
   unfolding room_check
   bad-length z h = rw (size-good n p z, refuted length-test (λ t. h (length-of t)))
 
-  pub good-room : InSize n p → Lengths n p xl yl → room_check n p xl yl ≡ Fine
+  pub good-room : InSize n p → Lengths n p xl yl → room_check n p xl yl ≡ Ok tt
   unfolding room_check
   good-room z l = rw (size-good n p z, length-good l)

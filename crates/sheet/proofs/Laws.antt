@@ -1,5 +1,6 @@
 -- What the contracts of `count_rows` and `read_sheet` say: which refusal for which sheet, that the outcome is one, that a refusal writes nothing,
 -- and that a sheet with no fault is read. Assumes nothing.
+use Rattle.std.specs.Prelude.{Result, ⊤, Ok, Err}
 use mathlib.Core.Path.{◌≡◌, refl, sym, ap, ◌∙◌}
 use mathlib.Core.Logic.{◌⊎◌, inl, inr}
 use mathlib.Core.List.{List}
@@ -9,14 +10,10 @@ use lib.ListN.{length}
 use lib.Ieee.{Float}
 use Rattle.refusal.specs.declared.Refusal.{Refusal}
 use Rattle.refusal.specs.declared.Refusal.TheVariants.{Size, Length, Claim, Pair}
-use Rattle.refusal.specs.declared.Checked.{Checked}
-use Rattle.refusal.specs.declared.Checked.TheVariants.{Fine, Bad}
 use Rattle.refusal.specs.Refusal.{number_of, place_of}
 use Rattle.refusal.proofs.Sizes.{InSize, size-known}
 use Rattle.sheet_front.specs.Front.{body_of}
 use Rattle.sheet_header.specs.declared.Header.{Header}
-use Rattle.sheet_header.specs.declared.Read.{Read}
-use Rattle.sheet_header.specs.declared.Read.TheVariants.{Sheet, Refused}
 use Rattle.sheet_header.specs.Header.{n_of, p_of, header_of, accept_check, header_check, Said.refused, said}
 use Rattle.sheet_header.proofs.Checks.{HeadedIn, good-header}
 use Rattle.sheet_header.proofs.Laws.{HeaderRefusalIn, header-told, every-header}
@@ -37,10 +34,10 @@ abbrev pub rows_left : List ℕ → ℕ
 rows_left b = remains (body_of b)
 
 -- the contract of `read_sheet`, for all input: it answers r, and leaves x' and y'
-abbrev pub Reads : List ℕ → ℕ → ℕ → List Float → List Float → Read → List Float → List Float → Type 0
+abbrev pub Reads : List ℕ → ℕ → ℕ → List Float → List Float → Result Header Refusal → List Float → List Float → Type 0
 Reads b R C x y r x' y' = outcome r x' y' ≡ sheet_of b R C x y
 
-abbrev answer_in : Outcome → Read
+abbrev answer_in : Outcome → Result Header Refusal
 answer_in (outcome r x y) = r
 
 abbrev matrix_in : Outcome → List Float
@@ -49,17 +46,17 @@ matrix_in (outcome r x y) = x
 abbrev targets_in : Outcome → List Float
 targets_in (outcome r x y) = y
 
-room-spared : (k : Checked) (h : Header) (x y x₁ y₁ : List Float) (q : Refusal) (x' y' : List Float)
-    → outcome (Refused q) x' y' ≡ by_check k x y (outcome (Sheet h) x₁ y₁) → (x' ≡ x) × (y' ≡ y)
-room-spared (Bad r) h x y x₁ y₁ q x' y' e = (ap matrix_in e, ap targets_in e)
-room-spared Fine h x y x₁ y₁ q x' y' e =
+room-spared : (k : Result ⊤ Refusal) (h : Header) (x y x₁ y₁ : List Float) (q : Refusal) (x' y' : List Float)
+    → outcome (Err q) x' y' ≡ by_check k x y (outcome (Ok h) x₁ y₁) → (x' ≡ x) × (y' ≡ y)
+room-spared (Err r) h x y x₁ y₁ q x' y' e = (ap matrix_in e, ap targets_in e)
+room-spared (Ok tt) h x y x₁ y₁ q x' y' e =
     let z : ◌≡◌ {A = ℕ} 0 1 = cc in
     absurd (omega arith)
 
-spared : (o : Read) (b : List ℕ) (x y : List Float) (q : Refusal) (x' y' : List Float) → outcome (Refused q) x' y' ≡ by_count o b x y → (x' ≡ x) × (y' ≡ y)
+spared : (o : Result Header Refusal) (b : List ℕ) (x y : List Float) (q : Refusal) (x' y' : List Float) → outcome (Err q) x' y' ≡ by_count o b x y → (x' ≡ x) × (y' ≡ y)
 unfolding body_read
-spared (Refused r) b x y q x' y' e = (ap matrix_in e, ap targets_in e)
-spared (Sheet h) b x y q x' y' e = room-spared (room_check h.n h.p (length x) (length y)) h x y _ _ q x' y' e
+spared (Err r) b x y q x' y' e = (ap matrix_in e, ap targets_in e)
+spared (Ok h) b x y q x' y' e = room-spared (room_check h.n h.p (length x) (length y)) h x y _ _ q x' y' e
 
 -- ---- the refusals of the bytes alone, in 01's order
 
@@ -93,7 +90,7 @@ module _ (first last : ℕ) (b : List ℕ) where
 
   -- the check that refuses it: the header's, or behind it the rows'
   abbrev pub RefusedBy : Refusal → Type 0
-  RefusedBy q = (accept_check first last b ≡ Bad q) ⊎ (HeadedIn first last b × (rows_from (body_of b) (columns-in b) (rows_in b) 0 ≡ Bad q))
+  RefusedBy q = (accept_check first last b ≡ Err q) ⊎ (HeadedIn first last b × (rows_from (body_of b) (columns-in b) (rows_in b) 0 ≡ Err q))
 
   pub row_told : {k i : ℕ} → RowRefusalIn k i → (q : Refusal) × RefusedBy q × (number_of q ≡ k) × (place_of q ≡ i)
   row_told (header h) =
@@ -110,11 +107,11 @@ abbrev pub BytesFine : List ℕ → Type 0
 BytesFine b = BytesFineIn 1 2 b
 
 module _ (b : List ℕ) (R C : ℕ) where
-  count-told : (q : Refusal) → RefusedBy 1 2 b q → rows_read b R C ≡ Refused q
+  count-told : (q : Refusal) → RefusedBy 1 2 b q → rows_read b R C ≡ Err q
   count-told q (inl e) = sym (count-refused b R C (header_check b) refl e)
   count-told q (inr (h, e)) = sym (count-read b R C (header_check b) refl _ (good-header 1 2 b h) (bad-count (body_of b) R C _ _ refl refl _ refl e))
 
-  module _ {r : Read} (c : r ≡ rows_read b R C) where
+  module _ {r : Result Header Refusal} (c : r ≡ rows_read b R C) where
     -- 01's number and place are those of the first refusal that holds
     pub first-row-refusal : {k i : ℕ} → RowRefusal b k i → said r ≡ refused k i
     first-row-refusal h =
@@ -122,18 +119,18 @@ module _ (b : List ℕ) (R C : ℕ) where
         ap said (c ∙ count-told t.0 t.1) ∙ rw (t.2, t.3)
 
     -- where none holds, the header has the n that remains
-    pub counts-remaining : BytesFine b → r ≡ Sheet (header_of (body_of b) (rows_left b) R C)
+    pub counts-remaining : BytesFine b → r ≡ Ok (header_of (body_of b) (rows_left b) R C)
     counts-remaining w =
         let l = good-rows _ _ _ _ w.rows in
         c ∙ sym (count-read b R C (header_check b) refl _ (good-header 1 2 b w.header) (counts_all (body_of b) R C _ _ refl refl _ refl _ _ l refl refl))
 
 module _ (b : List ℕ) (R C : ℕ) (x y : List Float) where
-  pub outcomes-coincide : {r q : Read} {x' x'' y' y'' : List Float} → Reads b R C x y r x' y' → Reads b R C x y q x'' y'' → (r ≡ q) × (x' ≡ x'') × (y' ≡ y'')
+  pub outcomes-coincide : {r q : Result Header Refusal} {x' x'' y' y'' : List Float} → Reads b R C x y r x' y' → Reads b R C x y q x'' y'' → (r ≡ q) × (x' ≡ x'') × (y' ≡ y'')
   outcomes-coincide c d =
       let e = c ∙ sym d in
       (ap answer_in e, ap matrix_in e, ap targets_in e)
 
-  pub refused-writes-nothing : {q : Refusal} {x' y' : List Float} → Reads b R C x y (Refused q) x' y' → (x' ≡ x) × (y' ≡ y)
+  pub refused-writes-nothing : {q : Refusal} {x' y' : List Float} → Reads b R C x y (Err q) x' y' → (x' ≡ x) × (y' ≡ y)
   unfolding sheet_of
   refused-writes-nothing c = spared (rows_read b R C) (body_of b) x y _ _ _ c
 
@@ -173,19 +170,19 @@ module _ (b : List ℕ) (R C : ℕ) (x y : List Float) where
   body-told : BytesFine b → {o : Outcome} → o ≡ body_read (body_of b) (header_of (body_of b) (rows_left b) R C) x y → sheet_of b R C x y ≡ o
   body-told w e = sym (sheet-read b R C (rows_read b R C) refl x y (counts-remaining b R C refl w) e)
 
-  room-told : (q : Refusal) → BytesFine b → room_check (rows_left b) (columns-in b) (length x) (length y) ≡ Bad q
-      → sheet_of b R C x y ≡ outcome (Refused q) x y
+  room-told : (q : Refusal) → BytesFine b → room_check (rows_left b) (columns-in b) (length x) (length y) ≡ Err q
+      → sheet_of b R C x y ≡ outcome (Err q) x y
   unfolding header_of
   room-told q w e = body-told w (bad-room (body_of b) (header_of (body_of b) (rows_left b) R C) x y _ refl e)
 
-  told : {k i : ℕ} → FirstRefusal k i → (q : Refusal) × (sheet_of b R C x y ≡ outcome (Refused q) x y) × (said (Refused q) ≡ refused k i)
+  told : {k i : ℕ} → FirstRefusal k i → (q : Refusal) × (sheet_of b R C x y ≡ outcome (Err q) x y) × (said (Err q) ≡ refused k i)
   told (bytes h) =
       let t = row_told 1 2 b h in
       (t.0, sym (sheet-refused b R C (rows_read b R C) refl x y (count-told b R C t.0 t.1)), rw (t.2, t.3))
   told (size h n) = (Size, room-told Size h (bad-size _ _ _ _ n), refl)
   told (lengths h z n) = (Length, room-told Length h (bad-length _ _ _ _ z n), refl)
 
-  module _ {r : Read} {x' y' : List Float} (c : Reads b R C x y r x' y') where
+  module _ {r : Result Header Refusal} {x' y' : List Float} (c : Reads b R C x y r x' y') where
     -- 01's number and place are those of the first refusal that holds, and nothing is written
     pub first-refusal : {k i : ℕ} → FirstRefusal k i → (said r ≡ refused k i) × (x' ≡ x) × (y' ≡ y)
     first-refusal h =
@@ -195,7 +192,7 @@ module _ (b : List ℕ) (R C : ℕ) (x y : List Float) where
 
     -- where none holds the sheet is read, to these numbers
     pub well-formed-read : WellFormed
-        → (r ≡ Sheet (header_of (body_of b) (rows_left b) R C))
+        → (r ≡ Ok (header_of (body_of b) (rows_left b) R C))
         × (x' ≡ matrix_of (body_of b) (rows_in b) (columns-in b))
         × (y' ≡ targets_of (body_of b) (rows_in b) (columns-in b))
     unfolding header_of
@@ -208,7 +205,7 @@ module _ (b : List ℕ) (R C : ℕ) (x y : List Float) where
   -- ---- what a count says is what the sheet asks for
 
   -- its header is the sheet's; with its n and p in range, and so many elements lent, nothing refuses the sheet
-  pub counted-lends : {h : Header} → Sheet h ≡ rows_read b R C → InSize h.n h.p → length x ≡ h.n * h.p → length y ≡ h.n
+  pub counted-lends : {h : Header} → Ok h ≡ rows_read b R C → InSize h.n h.p → length x ≡ h.n * h.p → length y ≡ h.n
       → (h ≡ header_of (body_of b) (rows_left b) R C) × WellFormed
   unfolding header_of
   counted-lends {h} e z lx ly = go (every-count 1 2 b) where

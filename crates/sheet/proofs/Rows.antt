@@ -1,20 +1,15 @@
 -- The rows one after another: what the tests of one row say of the tests of those that are left. Assumes nothing.
-use mathlib.Core.Path.{◌≡◌, refl, ◌∙◌}
+use Rattle.std.specs.Prelude.{Result, ⊤, Ok, Err}
+use mathlib.Core.Path.{◌≡◌, refl}
 use mathlib.Core.Bool.{Bool, true, false}
 use mathlib.Core.List.{List}
-use Prim.Native.Nat.{ℕ, zero, suc, ◌+◌, ◌-◌, ◌*◌, ◌≤◌, ◌<◌}
+use Prim.Native.Nat.{ℕ, zero, suc, ◌+◌, ◌-◌, ◌≤◌, ◌<◌}
 use native.Mathlib.Omega.{arith}
 use lib.ListN.{length}
-use Rattle.matrices.proofs.Lengths.{next_row}
 use Rattle.refusal.specs.declared.Refusal.{Refusal}
-use Rattle.refusal.specs.declared.Checked.{Checked}
-use Rattle.refusal.specs.declared.Checked.TheVariants.{Fine, Bad}
 use Rattle.sheet_header.specs.Header.{n_of, p_of, row_at}
 use Rattle.sheet_header.proofs.Passed.{Laid}
-use Rattle.sheet.specs.Rows.{ahead, source_of, target_of, score_bits, claims_fine, above, rises, pairs_from}
-
-abbrev pub claims : List ℕ → ℕ → ℕ → Bool
-claims b p i = claims_fine (source_of b p i) (target_of b p i) (score_bits b p i)
+use Rattle.sheet.specs.Rows.{ahead, claims_fine, above, rises, pairs_from}
 
 module _ (s t w : ℕ → ℕ) where
   row_first : (left i : ℕ) (q u : Bool) → claims_fine (s i) (t i) (w i) ≡ q → rises s t i ≡ u
@@ -25,19 +20,19 @@ module _ (s t w : ℕ → ℕ) where
   row_first left i false true c r = simp (c, r)
   row_first left i false false c r = simp (c, r)
 
-  module _ (n i : ℕ) (h : i < n) (k : Checked) (e : k ≡ pairs_from s t w 1 i) where
+  module _ (n i : ℕ) (h : i < n) (k : Result ⊤ Refusal) (e : k ≡ pairs_from s t w 1 i) where
     by_row : pairs_from s t w (n - i) i ≡ ahead k (pairs_from s t w (n - (i + 1)) (i + 1))
     by_row =
         let left : n - i ≡ suc (n - (i + 1)) = omega arith in
         rw (e, left) (row_first (n - (i + 1)) i (claims_fine (s i) (t i) (w i)) (rises s t i) refl refl)
 
-    pub row-passed : k ≡ Fine → pairs_from s t w (n - i) i ≡ pairs_from s t w (n - (i + 1)) (i + 1)
+    pub row-passed : k ≡ Ok tt → pairs_from s t w (n - i) i ≡ pairs_from s t w (n - (i + 1)) (i + 1)
     row-passed f = rw f at by_row
 
-    pub row-refused : {r : Refusal} → k ≡ Bad r → pairs_from s t w (n - i) i ≡ k
+    pub row-refused : {r : Refusal} → k ≡ Err r → pairs_from s t w (n - i) i ≡ k
     row-refused f = rw f (rw f at by_row)
 
-  pub none_left : (n i : ℕ) → n ≤ i → pairs_from s t w (n - i) i ≡ Fine
+  pub none_left : (n i : ℕ) → n ≤ i → pairs_from s t w (n - i) i ≡ Ok tt
   unfolding pairs_from
   none_left n i h =
       let e : n - i ≡ 0 = omega arith in
@@ -61,14 +56,3 @@ same-pairs {s} {t} {w} {s'} {t'} {w'} n e (suc left) i h =
     rise : (j : ℕ) → j < n → rises s t j ≡ rises s' t' j
     rise zero l = refl
     rise (suc j) l = rw ((e j (omega arith)).0, (e j (omega arith)).1, (e (suc j) l).0, (e (suc j) l).1)
-
--- ---- places
-
-pub rows-within : (b : List ℕ) {n p : ℕ} → n ≡ n_of b → p ≡ p_of b → Laid b → row_at p n ≤ length b
-rows-within b en ep e = rw (en, ep) (omega arith)
-
--- the row before row i
-pub before-row : (i w : ℕ) → (i ≡ 0 → ⊥) → (i - 1) * w + w ≡ i * w
-before-row i w h =
-    let e : i - 1 + 1 ≡ i = omega (arith, h) in
-    next_row (i - 1) w ∙ rw e

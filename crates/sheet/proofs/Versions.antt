@@ -1,5 +1,7 @@
 -- Sheets that are not of version 2 have the outcomes that they had while there was version 1 alone: the former definitions are the old texts, and where those
 -- did not change the present ones. Assumes nothing.
+use Rattle.refusal.specs.declared.Refusal.{Refusal}
+use Rattle.std.specs.Prelude.{Result, ⊤, Ok, Err}
 use mathlib.Core.Path.{◌≡◌, refl, sym, ◌∙◌}
 use mathlib.Core.Bool.{Bool, true, ◌&&◌, cond}
 use mathlib.Core.List.{List, [], ◌∷◌, ◌++◌}
@@ -13,15 +15,11 @@ use borrow.Author.Tests.{leb-true, lt-leb, eq-eqb, ne_eqb}
 use Rattle.arrays.specs.Part.{tab}
 use Rattle.matrices.specs.Grid.{grid}
 use Rattle.refusal.specs.declared.Refusal.TheVariants.{Version, SheetLength, Flags, Claim, Pair}
-use Rattle.refusal.specs.declared.Checked.{Checked}
-use Rattle.refusal.specs.declared.Checked.TheVariants.{Fine}
 use Rattle.refusal.specs.Checks.{ask}
 use Rattle.refusal.proofs.Asking.{refuted, both_true}
 use Rattle.big_endian.specs.Bytes.{four_bytes}
 use Rattle.sheet_front.specs.Front.{version_of, rest_of, body_of}
 use Rattle.sheet_header.specs.declared.Header.{Header}
-use Rattle.sheet_header.specs.declared.Read.{Read}
-use Rattle.sheet_header.specs.declared.Read.TheVariants.{Sheet, Refused}
 use Rattle.sheet_header.specs.Header.{n_of, p_of, alpha_of, ratio_of, tol_of, max_iter_of, flags_of, row_at}
 use Rattle.sheet_header.specs.Header.{body_check, header_of, accept_check, header_check, read_by, header_read}
 use Rattle.sheet.specs.Rows.{source_of, target_of, feature_of, score_bits, score_of, cancelled, claims_fine, above, room_check}
@@ -30,10 +28,10 @@ use Rattle.sheet.specs.Sheet.{body_rows, rows_read, Outcome, Outcome.outcome, by
 
 -- ---- the old texts: of a header
 
-abbrev pub former_body_check : List ℕ → Checked
+abbrev pub former_body_check : List ℕ → Result ⊤ Refusal
 former_body_check b =
     ask (eqb (length b) (row_at (p_of b) (n_of b))) SheetLength
-    (ask (leb (flags_of b) 3) Flags Fine)
+    (ask (leb (flags_of b) 3) Flags (Ok tt))
 
 abbrev pub former_header_of : List ℕ → ℕ → ℕ → ℕ → Header
 former_header_of b n R C = record {
@@ -54,15 +52,15 @@ former_header_of b n R C = record {
 abbrev pub former_body_of : List ℕ → List ℕ
 former_body_of b = drop 5 b
 
-abbrev pub former_check : List ℕ → Checked
+abbrev pub former_check : List ℕ → Result ⊤ Refusal
 former_check b =
     ask (leb 5 (length b)) SheetLength
     (ask (eqb (get_or b 0 0) 1) Version
     (ask (eqb (four_bytes b 1) (length (former_body_of b))) SheetLength
     (former_body_check (former_body_of b))))
 
-abbrev pub former_header : List ℕ → ℕ → ℕ → Read
-former_header b R C = read_by (former_check b) (Sheet (former_header_of (former_body_of b) (n_of (former_body_of b)) R C))
+abbrev pub former_header : List ℕ → ℕ → ℕ → Result Header Refusal
+former_header b R C = read_by (former_check b) (Ok (former_header_of (former_body_of b) (n_of (former_body_of b)) R C))
 
 -- ---- of the rows
 
@@ -74,8 +72,8 @@ abbrev pub former_rises : List ℕ → ℕ → ℕ → Bool
 former_rises b p zero = true
 former_rises b p (suc i) = above (source_of b p i) (target_of b p i) (source_of b p (suc i)) (target_of b p (suc i))
 
-unfoldable pub former_rows_from : List ℕ → ℕ → ℕ → ℕ → Checked
-former_rows_from b p zero i = Fine
+unfoldable pub former_rows_from : List ℕ → ℕ → ℕ → ℕ → Result ⊤ Refusal
+former_rows_from b p zero i = Ok tt
 former_rows_from b p (suc left) i =
     ask (claims_fine (source_of b p i) (target_of b p i) (score_bits b p i)) (Claim i)
     (ask (former_rises b p i) (Pair i)
@@ -96,20 +94,20 @@ former_targets_of b n p =
 abbrev pub former_remains : List ℕ → ℕ
 former_remains b = length (former_remaining b (p_of b) (n_of b))
 
-abbrev pub former_body_rows : List ℕ → ℕ → ℕ → Read
-former_body_rows b R C = read_by (former_rows_from b (p_of b) (n_of b) 0) (Sheet (former_header_of b (former_remains b) R C))
+abbrev pub former_body_rows : List ℕ → ℕ → ℕ → Result Header Refusal
+former_body_rows b R C = read_by (former_rows_from b (p_of b) (n_of b) 0) (Ok (former_header_of b (former_remains b) R C))
 
-abbrev pub former_rows : List ℕ → ℕ → ℕ → Read
+abbrev pub former_rows : List ℕ → ℕ → ℕ → Result Header Refusal
 former_rows b R C = read_by (former_check b) (former_body_rows (former_body_of b) R C)
 
 abbrev pub former_body_read : List ℕ → Header → List Float → List Float → Outcome
 former_body_read b h x y =
     by_check (room_check h.n h.p (length x) (length y)) x y
-    (outcome (Sheet h) (former_matrix_of b (n_of b) (p_of b)) (former_targets_of b (n_of b) (p_of b)))
+    (outcome (Ok h) (former_matrix_of b (n_of b) (p_of b)) (former_targets_of b (n_of b) (p_of b)))
 
-abbrev pub former_by_count : Read → List ℕ → List Float → List Float → Outcome
-former_by_count (Refused r) b x y = outcome (Refused r) x y
-former_by_count (Sheet h) b x y = former_body_read b h x y
+abbrev pub former_by_count : Result Header Refusal → List ℕ → List Float → List Float → Outcome
+former_by_count (Err r) b x y = outcome (Err r) x y
+former_by_count (Ok h) b x y = former_body_read b h x y
 
 abbrev pub former_sheet : List ℕ → ℕ → ℕ → List Float → List Float → Outcome
 former_sheet b R C x y = former_by_count (former_rows b R C) (former_body_of b) x y
@@ -144,10 +142,10 @@ module _ (b : List ℕ) where
   unfolding body_rows
   same-body-rows R C = rw (same_rows (p_of b) (n_of b) 0, same-remaining (p_of b) (n_of b), same-header (former_remains b) R C)
 
-  same-by-count : (o : Read) (x y : List Float) → by_count o b x y ≡ former_by_count o b x y
+  same-by-count : (o : Result Header Refusal) (x y : List Float) → by_count o b x y ≡ former_by_count o b x y
   unfolding body_read matrix_of targets_of
-  same-by-count (Refused r) x y = refl
-  same-by-count (Sheet h) x y = rw (same-remaining (p_of b) (n_of b))
+  same-by-count (Err r) x y = refl
+  same-by-count (Ok h) x y = rw (same-remaining (p_of b) (n_of b))
 
 -- ---- a sheet that is not of version 2
 

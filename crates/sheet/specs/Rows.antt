@@ -1,12 +1,11 @@
 -- The rows of a training sheet's body: the refusals 14 and 15 in 01's order, the rows that remain without the cancelled ones, and what these decode to.
 -- Definitions only.
-use Rattle.std.specs.Prelude.{Bool, true, ◌&&◌, ◌||◌, cond, List, [], ◌∷◌, ◌++◌, ℕ, zero, suc, ◌+◌, ◌*◌, leb, ltb, eqb, length, get_or, Float}
+use Rattle.refusal.specs.declared.Refusal.{Refusal}
+use Rattle.std.specs.Prelude.{Bool, true, ◌&&◌, ◌||◌, cond, List, [], ◌∷◌, ◌++◌, ℕ, zero, suc, ◌+◌, ◌*◌, leb, ltb, eqb, length, get_or, Float, Result, ⊤, Ok, Err}
 use Rattle.numbers.specs.Ops.{f64}
 use Rattle.arrays.specs.Part.{tab}
 use Rattle.matrices.specs.Grid.{grid}
 use Rattle.refusal.specs.declared.Refusal.TheVariants.{Size, Length, Claim, Pair}
-use Rattle.refusal.specs.declared.Checked.{Checked}
-use Rattle.refusal.specs.declared.Checked.TheVariants.{Fine, Bad}
 use Rattle.refusal.specs.Checks.{ask}
 use Rattle.refusal.specs.Sizes.{in_size}
 use Rattle.big_endian.specs.Bytes.{big_endian, two_bytes, float_at}
@@ -46,9 +45,9 @@ remaining b p n = left_of (target_of b p) n
 -- ---- 14 and 15
 
 -- a check's answer, and the next one's where it is fine
-abbrev pub ahead : Checked → Checked → Checked
-ahead Fine rest = rest
-ahead (Bad r) rest = Bad r
+abbrev pub ahead : Result ⊤ Refusal → Result ⊤ Refusal → Result ⊤ Refusal
+ahead (Ok tt) rest = rest
+ahead (Err r) rest = Err r
 
 -- a claim number is from 1 to 999
 abbrev pub is_claim : ℕ → Bool
@@ -68,22 +67,22 @@ rises source target zero = true
 rises source target (suc i) = above (source i) (target i) (source (suc i)) (target (suc i))
 
 -- 14, then 15, row by row: `left` rows from row i on, each with its two claims and the bits of its score; the place is the row, cancelled ones counted
-unfoldable pub pairs_from : (ℕ → ℕ) → (ℕ → ℕ) → (ℕ → ℕ) → ℕ → ℕ → Checked
-pairs_from source target score zero i = Fine
+unfoldable pub pairs_from : (ℕ → ℕ) → (ℕ → ℕ) → (ℕ → ℕ) → ℕ → ℕ → Result ⊤ Refusal
+pairs_from source target score zero i = Ok tt
 pairs_from source target score (suc left) i =
     ask (claims_fine (source i) (target i) (score i)) (Claim i)
     (ask (rises source target i) (Pair i)
     (pairs_from source target score left (i + 1)))
 
 -- of a body's rows
-abbrev pub rows_from : List ℕ → ℕ → ℕ → ℕ → Checked
+abbrev pub rows_from : List ℕ → ℕ → ℕ → ℕ → Result ⊤ Refusal
 rows_from b p left i = pairs_from (source_of b p) (target_of b p) (score_bits b p) left i
 
 -- 1 and 2, for n rows that remain and lent slices of these lengths
-unfoldable pub room_check : ℕ → ℕ → ℕ → ℕ → Checked
+unfoldable pub room_check : ℕ → ℕ → ℕ → ℕ → Result ⊤ Refusal
 room_check n p xl yl =
     ask (in_size n p) Size
-    (ask (eqb xl (n * p) && eqb yl n) Length Fine)
+    (ask (eqb xl (n * p) && eqb yl n) Length (Ok tt))
 
 -- ---- what n rows decode to: a row's place in the matrix is its order among those that remain, and no claim number occurs
 

@@ -9,84 +9,80 @@ ghost use Rattle.sheet.specs.Rows.{source_of, target_of, is_claim, claims_fine, 
 ghost use Rattle.sheet.specs.Sheet.{remains, body_rows, rows_read, Outcome.outcome, body_read, sheet_of};
 
 use big_endian::{big_endian, float_at, two_bytes};
-use refusal::{Checked, Refusal, in_size};
+use refusal::{Refusal, in_size};
 use sheet_front::body_at;
-use sheet_header::{FIRST, Header, LAST, N_AT, P_AT, Read, header_check, header_of, row_at};
+use sheet_header::{FIRST, Header, LAST, N_AT, P_AT, header_check, header_of, row_at};
 
 // Tells how many rows remain, so that a caller can lend for them: the header with that n. The refusals 11 to 15. Total, for all input.
-pub fn count_rows(b: &[u8], rows: usize, cols: usize) -> Read
+#[tactic(auto, unfolding(crate::specs::Sheet::rows_read))]
+pub fn count_rows(b: &[u8], rows: usize, cols: usize) -> Result<Header, Refusal>
     ensures { result ≡ rows_read b.now rows cols }
 {
-    let c = header_check(b, FIRST, LAST);
-    if let Checked::Bad(k) = c {
-        return Read::Refused(k);
-    }
+    header_check(b, FIRST, LAST)?;
     count_body(&b[body_at(b)..], rows, cols)
 }
 
 // Reads a sheet into x and y, which must have n * p and n elements for the n rows that remain. Nothing is written before every refusal is tested. Total, for
 // all input: the answer and what matrix and targets then hold are `sheet_of`.
-pub fn read_sheet(b: &[u8], rows: usize, cols: usize, x: &mut [f64], y: &mut [f64]) -> Read
+#[tactic(auto, unfolding(crate::specs::Sheet::sheet_of))]
+pub fn read_sheet(
+    b: &[u8],
+    rows: usize,
+    cols: usize,
+    x: &mut [f64],
+    y: &mut [f64],
+) -> Result<Header, Refusal>
     ensures { outcome result x.new y.new ≡ sheet_of b.now rows cols x.old y.old }
 {
-    match count_rows(b, rows, cols) {
-        Read::Refused(k) => Read::Refused(k),
-        Read::Sheet(h) => read_body(&b[body_at(b)..], h, x, y),
-    }
+    let h = count_rows(b, rows, cols)?;
+    read_body(&b[body_at(b)..], h, x, y)
 }
 
 // ---- from here on every b is a body
 
 // The refusals 14 and 15 over the rows, then how many remain.
-fn count_body(b: &[u8], rows: usize, cols: usize) -> Read
+#[tactic(auto, unfolding(crate::specs::Sheet::body_rows))]
+fn count_body(b: &[u8], rows: usize, cols: usize) -> Result<Header, Refusal>
     requires { length b.now ≡ row_at (p_of b.now) (n_of b.now) }
     ensures { result ≡ body_rows b.now rows cols }
 {
     let n = two_bytes(b, N_AT);
     let p = two_bytes(b, P_AT);
-    let c = rows_check(b, n, p);
-    if let Checked::Bad(k) = c {
-        return Read::Refused(k);
-    }
-    Read::Sheet(header_of(b, count_remaining(b, n, p), rows, cols))
+    rows_check(b, n, p)?;
+    Ok(header_of(b, count_remaining(b, n, p), rows, cols))
 }
 
 // Reads the rows of a body with this header: first the refusals 1 and 2, then what it decodes to.
-fn read_body(b: &[u8], h: Header, x: &mut [f64], y: &mut [f64]) -> Read
+#[tactic(auto, unfolding(crate::specs::Sheet::body_read))]
+fn read_body(b: &[u8], h: Header, x: &mut [f64], y: &mut [f64]) -> Result<Header, Refusal>
     requires b_len { length b.now ≡ row_at (p_of b.now) (n_of b.now) }
     requires n_value { h.n ≡ remains b.now }
     requires p_value { h.p ≡ p_of b.now }
     ensures { outcome result x.new y.new ≡ body_read b.now h x.old y.old }
 {
     let n = two_bytes(b, N_AT);
-    let p = h.p;
-    let c = room_check(h.n, p, x.len(), y.len());
-    if let Checked::Bad(k) = c {
-        return Read::Refused(k);
-    }
-    fill_matrix(b, n, p, x);
-    fill_targets(b, n, p, y);
-    Read::Sheet(h)
+    room_check(h.n, h.p, x.len(), y.len())?;
+    fill_matrix(b, n, h.p, x);
+    fill_targets(b, n, h.p, y);
+    Ok(h)
 }
 
 // ---- the refusals of the rows
 
 // The refusals 14 and 15 of all n rows.
-pub fn rows_check(b: &[u8], n: usize, p: usize) -> Checked
+pub fn rows_check(b: &[u8], n: usize, p: usize) -> Result<(), Refusal>
     requires { row_at p n ≤ length b.now }
     ensures { result ≡ rows_from b.now p n 0 }
 {
     for i in 0..n {
-        let c = row_check(b, p, i);
-        let Checked::Fine = c else {
-            return c;
-        };
+        row_check(b, p, i)?;
     }
-    Checked::Fine
+    Ok(())
 }
 
 // Those of row i alone.
-fn row_check(b: &[u8], p: usize, i: usize) -> Checked
+#[tactic(auto, unfolding(crate::specs::Rows::pairs_from))]
+fn row_check(b: &[u8], p: usize, i: usize) -> Result<(), Refusal>
     requires { row_at p i + row-bytes p ≤ length b.now }
     ensures { result ≡ rows_from b.now p 1 i }
 {
@@ -95,35 +91,26 @@ fn row_check(b: &[u8], p: usize, i: usize) -> Checked
     let target = two_bytes(b, at + 2);
     let score = big_endian(b, at + 4 + 8 * p, 8);
     if !claims_fine(source, target, score) {
-        return Checked::Bad(Refusal::Claim(i));
+        return Err(Refusal::Claim(i));
     }
     if !pair_rises(b, p, i) {
-        return Checked::Bad(Refusal::Pair(i));
+        return Err(Refusal::Pair(i));
     }
-    Checked::Fine
+    Ok(())
 }
 
 // Whether two claim numbers and the bits of a score may stand in a row: a cancelled claim has target 0 and no score.
+#[tactic(auto, unfolding(crate::specs::Rows::claims_fine))]
 pub fn claims_fine(source: usize, target: usize, score: u64) -> bool
     ensures { result ≡ claims_fine source target score }
 {
-    if !is_claim(source) {
-        return false;
-    }
-    if target == 0 {
-        score == 0
-    } else {
-        is_claim(target)
-    }
+    is_claim(source) && (is_claim(target) || (target == 0 && score == 0))
 }
 
 fn is_claim(c: usize) -> bool
     ensures { result ≡ is_claim c }
 {
-    if c < 1 {
-        return false;
-    }
-    c <= 999
+    1 <= c && c <= 999
 }
 
 // Whether row i's pair is above that of the row before it. The first row has none before it.
@@ -134,24 +121,25 @@ fn pair_rises(b: &[u8], p: usize, i: usize) -> bool
     if i == 0 {
         return true;
     }
-    let before = row_at(p, i - 1);
+    let (s, t) = pair(b, p, i - 1);
+    let (u, v) = pair(b, p, i);
+    pair_above(s, t, u, v)
+}
+
+// Source and target of row i.
+fn pair(b: &[u8], p: usize, i: usize) -> (usize, usize)
+    requires { row_at p i + row-bytes p ≤ length b.now }
+    ensures { result ≡ (source_of b.now p i, target_of b.now p i) }
+{
     let at = row_at(p, i);
-    pair_above(
-        two_bytes(b, before),
-        two_bytes(b, before + 2),
-        two_bytes(b, at),
-        two_bytes(b, at + 2),
-    )
+    (two_bytes(b, at), two_bytes(b, at + 2))
 }
 
 // Whether the pair (u, v) is above (s, t): by the source first.
 pub fn pair_above(s: usize, t: usize, u: usize, v: usize) -> bool
     ensures { result ≡ above s t u v }
 {
-    if s < u {
-        return true;
-    }
-    if s == u { t < v } else { false }
+    (s, t) < (u, v)
 }
 
 // ---- what remains
@@ -167,30 +155,22 @@ pub fn count_remaining(b: &[u8], n: usize, p: usize) -> usize
     requires { row_at p n ≤ length b.now }
     ensures { result ≡ length (remaining b.now p n) }
 {
-    let mut left = 0;
-    for i in 0..n {
-        if !is_cancelled(b, p, i) {
-            left += 1;
-        }
-    }
-    left
+    (0..n).filter(|i| !is_cancelled(b, p, *i)).count()
 }
 
 // ---- the lent slices
 
-fn room_check(n: usize, p: usize, xl: usize, yl: usize) -> Checked
+#[tactic(auto, unfolding(crate::specs::Rows::room_check))]
+fn room_check(n: usize, p: usize, xl: usize, yl: usize) -> Result<(), Refusal>
     ensures { result ≡ room_check n p xl yl }
 {
     if !in_size(n, p) {
-        return Checked::Bad(Refusal::Size);
+        return Err(Refusal::Size);
     }
-    if xl != n * p {
-        return Checked::Bad(Refusal::Length);
+    if xl != n * p || yl != n {
+        return Err(Refusal::Length);
     }
-    if yl != n {
-        return Checked::Bad(Refusal::Length);
-    }
-    Checked::Fine
+    Ok(())
 }
 
 // i is the sheet's row, k the matrix's.

@@ -1,4 +1,6 @@
 -- What each call of the reader returns and leaves, from what the calls within it say. Assumes nothing.
+use Rattle.refusal.specs.declared.Refusal.{Refusal}
+use Rattle.std.specs.Prelude.{Ok, Err, Result}
 use mathlib.Core.Path.{◌≡◌, refl}
 use mathlib.Core.Bool.{Bool, true, false, ◌&&◌}
 use mathlib.Core.List.{List, []}
@@ -7,40 +9,23 @@ use native.Mathlib.Omega.{arith}
 use lib.Dec.{eqb}
 use lib.ListN.{length}
 use lib.Ieee.{Float}
-use borrow.Author.Tests.{eqb-true, eq-eqb, ne_eqb}
+use borrow.Author.Tests.{eqb-true}
 use Rattle.refusal.specs.declared.Refusal.TheVariants.{Size, Length}
-use Rattle.refusal.specs.declared.Checked.TheVariants.{Fine}
 use Rattle.refusal.specs.Checks.{ask}
 use Rattle.refusal.specs.Sizes.{in_size}
 use Rattle.refusal.proofs.Asking.{refuted, both_true}
 use Rattle.refusal.proofs.Sizes.{size_of}
 use Rattle.sheet_front.specs.Front.{body_of}
 use Rattle.sheet_header.specs.declared.Header.{Header}
-use Rattle.sheet_header.specs.declared.Read.{Read}
-use Rattle.sheet_header.specs.declared.Read.TheVariants.{Sheet, Refused}
-use Rattle.sheet_header.specs.Header.{header_read}
 use Rattle.sheet.specs.Rows.{room_check}
 use Rattle.sheet.specs.Sheet.{rows_read, outcome, by_check, body_read, by_count, sheet_of}
 use Rattle.sheet_words.specs.Words.{header-words, number_in, header_in, place_words, unread}
-use Rattle.sheet_api.specs.Calls.{called, answer_in, read_header_words, read_as, count_rows_words, read_sheet_words}
+use Rattle.sheet_api.specs.Calls.{called, answer_in, read_as, read_sheet_words}
 
 -- a refusal leaves the header's words
-refused-keeps : (o : Read) (hw : List ℕ) → header_in (unread o) hw ≡ hw
-refused-keeps (Sheet h) hw = refl
-refused-keeps (Refused r) hw = refl
-
--- ---- the header alone
-
-module _ (b : List ℕ) (R C : ℕ) (hw : List ℕ) where
-  pub header-not-due : {o u : Read} {k : ℕ} → (length hw ≡ header-words → ⊥) → o ≡ header_read b R C → u ≡ unread o → k ≡ number_in u
-      → called k hw [] [] [] ≡ read_header_words b R C hw
-  unfolding read_header_words read_as
-  header-not-due {o} h eo eu ek = rw (ne_eqb (length hw) header-words h, ← eo, ek, eu, refused-keeps o hw)
-
-  pub header-due : {o : Read} {hw' : List ℕ} {k : ℕ} → length hw ≡ header-words → o ≡ header_read b R C → hw' ≡ header_in o hw → k ≡ number_in o
-      → called k hw' [] [] [] ≡ read_header_words b R C hw
-  unfolding read_header_words read_as
-  header-due h eo eh ek = rw (eq-eqb (length hw) header-words h, ← eo, ek, eh)
+refused-keeps : (o : Result Header Refusal) (hw : List ℕ) → header_in (unread o) hw ≡ hw
+refused-keeps (Ok h) hw = refl
+refused-keeps (Err r) hw = refl
 
 -- ---- a sheet for which nothing is lent
 
@@ -52,16 +37,16 @@ no_room n p h =
     absurd (omega (arith, (size_of n p h).some-rows, eqb-true 0 n z)))
 
 room_shut : (s : Bool) (l m : Bool) (x y x₁ y₁ : List Float) (h : Header) → (s ≡ true → m ≡ false)
-    → unread (answer_in (by_check (ask s Size (ask l Length Fine)) x y (outcome (Sheet h) x₁ y₁)))
-    ≡ answer_in (by_check (ask s Size (ask m Length Fine)) [] [] (outcome (Sheet h) x₁ y₁))
+    → unread (answer_in (by_check (ask s Size (ask l Length (Ok tt))) x y (outcome (Ok h) x₁ y₁)))
+    ≡ answer_in (by_check (ask s Size (ask m Length (Ok tt))) [] [] (outcome (Ok h) x₁ y₁))
 room_shut false l m x y x₁ y₁ h q = refl
 room_shut true true m x y x₁ y₁ h q = rw (q refl)
 room_shut true false m x y x₁ y₁ h q = rw (q refl)
 
-count-shut : (o : Read) (b : List ℕ) (x y : List Float) → unread (answer_in (by_count o b x y)) ≡ answer_in (by_count o b [] [])
+count-shut : (o : Result Header Refusal) (b : List ℕ) (x y : List Float) → unread (answer_in (by_count o b x y)) ≡ answer_in (by_count o b [] [])
 unfolding body_read room_check
-count-shut (Refused r) b x y = refl
-count-shut (Sheet h) b x y =
+count-shut (Err r) b x y = refl
+count-shut (Ok h) b x y =
     let n = h.n in
     let p = h.p in
     room_shut (in_size n p) (eqb (length x) (n * p) && eqb (length y) n) (eqb 0 (n * p) && eqb 0 n) x y _ _ h (no_room n p)
@@ -71,31 +56,10 @@ shut : (b : List ℕ) (R C : ℕ) (x y : List Float) → unread (answer_in (shee
 unfolding sheet_of
 shut b R C x y = count-shut (rows_read b R C) (body_of b) x y
 
-pub refused-told : (b : List ℕ) (R C : ℕ) (pw : List ℕ) {o : Read} {x y : List Float} {k : ℕ} {pw' : List ℕ} → outcome o x y ≡ sheet_of b R C [] []
-    → pw' ≡ place_words o pw → k ≡ number_in o
-    → (k ≡ number_in (answer_in (sheet_of b R C [] []))) × (pw' ≡ place_words (answer_in (sheet_of b R C [] [])) pw)
-refused-told b R C pw e ep ek = (rw (← e) ek, rw (← e) ep)
-
 -- ---- header and place
 
 abbrev pub Due : ℕ → ℕ → Bool
 Due h p = eqb h header-words && eqb p 1
-
-pub due-header : (h p : ℕ) → Due h p ≡ true → h ≡ header-words
-due-header h p q = eqb-true h header-words (both_true (eqb h header-words) (eqb p 1) q).0
-
--- ---- how many rows remain
-
-module _ (b : List ℕ) (R C : ℕ) (hw pw : List ℕ) where
-  pub count-not-due : {o u : Read} {pw' : List ℕ} {k : ℕ} → Due (length hw) (length pw) ≡ false → o ≡ rows_read b R C → u ≡ unread o → pw' ≡ place_words u pw
-      → k ≡ number_in u → called k hw pw' [] [] ≡ count_rows_words b R C hw pw
-  unfolding count_rows_words read_as
-  count-not-due {o} h eo eu ep ek = rw (h, ← eo, ek, ep, eu, refused-keeps o hw)
-
-  pub count-due : {o : Read} {hw' pw' : List ℕ} {k : ℕ} → Due (length hw) (length pw) ≡ true → o ≡ rows_read b R C → k ≡ number_in o → hw' ≡ header_in o hw
-      → pw' ≡ place_words o pw → called k hw' pw' [] [] ≡ count_rows_words b R C hw pw
-  unfolding count_rows_words read_as
-  count-due h eo ek eh ep = rw (h, ← eo, ek, eh, ep)
 
 -- ---- the whole sheet
 
@@ -105,9 +69,3 @@ module _ (b : List ℕ) (R C : ℕ) (x y : List Float) (hw pw : List ℕ) where
   unfolding read_sheet_words read_as
   sheet-not-due h ek ep =
       rw (h, ek, ep, ← shut b R C x y, refused-keeps (answer_in (sheet_of b R C x y)) hw)
-
-  pub sheet-due : {o : Read} {x' y' : List Float} {hw' pw' : List ℕ} {k : ℕ} → Due (length hw) (length pw) ≡ true
-      → outcome o x' y' ≡ sheet_of b R C x y → k ≡ number_in o → hw' ≡ header_in o hw → pw' ≡ place_words o pw
-      → called k hw' pw' x' y' ≡ read_sheet_words b R C x y hw pw
-  unfolding read_sheet_words read_as
-  sheet-due q eo ek eh ep = rw (q, ← eo, ek, eh, ep)

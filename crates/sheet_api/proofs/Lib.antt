@@ -1,4 +1,3 @@
 mod Calls
-mod Writing
 pub mod Unique
 pub mod Refused

@@ -1,4 +1,6 @@
 -- A writer or a move that refuses writes nothing but the place: the output, and the words of a move, are as they were. Assumes nothing.
+use Rattle.refusal.specs.declared.Refusal.{Refusal}
+use Rattle.std.specs.Prelude.{Result, ⊤, Ok, Err}
 use mathlib.Core.Path.{◌≡◌, refl, sym, subst}
 use mathlib.Core.Bool.{Bool, true, false, ◌&&◌, cond}
 use mathlib.Core.List.{List, []}
@@ -6,8 +8,6 @@ use Prim.Native.Nat.{ℕ}
 use lib.Dec.{eqb}
 use lib.ListN.{length}
 use lib.Ieee.{Float}
-use Rattle.refusal.specs.declared.Checked.{Checked}
-use Rattle.refusal.specs.declared.Checked.TheVariants.{Fine, Bad}
 use Rattle.sheet_front.specs.declared.Version.{Version}
 use Rattle.sheet_front.specs.Front.{family_of, sheet_with}
 use Rattle.sheet_write.specs.Write.{given, body_bytes, write_check, laid_by, written_of}
@@ -24,11 +24,11 @@ Leaves mw out (called_out r mw' pw' out') = (r ≡ 0 → ⊥) → (mw' ≡ mw) �
 -- ---- a writer
 
 -- where words are missing, and where they are there
-write-leaves : (due : Bool) (c u : Checked) (sheet out pw : List ℕ)
+write-leaves : (due : Bool) (c u : Result ⊤ Refusal) (sheet out pw : List ℕ)
     → Leaves [] out (cond due (written_as pw (laid_by c sheet out)) (called_out (number_by u) [] (place_word u pw) out))
 write-leaves false c u sheet out pw = λ _. (refl, refl)
-write-leaves true (Bad r) u sheet out pw = λ _. (refl, refl)
-write-leaves true Fine u sheet out pw = λ q. absurd (q refl)
+write-leaves true (Err r) u sheet out pw = λ _. (refl, refl)
+write-leaves true (Ok tt) u sheet out pw = λ q. absurd (q refl)
 
 pub write-call-refused : (v : Version) (n p : ℕ) (sw sources targets : List ℕ) (x y : List Float) (out pw : List ℕ) {r : ℕ} {pw' out' : List ℕ}
     → WriteCall v n p sw sources targets x y out pw r pw' out' → (r ≡ 0 → ⊥) → out' ≡ out
@@ -41,13 +41,13 @@ write-call-refused v n p sw sources targets x y out pw h q =
 
 -- ---- a move
 
-move-leaves : (due : Bool) (c u : Checked) (sheet : List ℕ) (family : ℕ) (out mw pw : List ℕ)
+move-leaves : (due : Bool) (c u : Result ⊤ Refusal) (sheet : List ℕ) (family : ℕ) (out mw pw : List ℕ)
     → Leaves mw out (cond due (moved_as mw pw (moved_by c sheet family out)) (called_out (number_by u) mw (place_word u pw) out))
 move-leaves false c u sheet family out mw pw = λ _. (refl, refl)
-move-leaves true (Bad r) u sheet family out mw pw = λ _. (refl, refl)
-move-leaves true Fine u sheet family out mw pw = λ q. absurd (q refl)
+move-leaves true (Err r) u sheet family out mw pw = λ _. (refl, refl)
+move-leaves true (Ok tt) u sheet family out mw pw = λ q. absurd (q refl)
 
-words-leave : (c : Checked) (sheet : List ℕ) (family : ℕ) (out mw pw : List ℕ) → Leaves mw out (move_words (moved_by c sheet family out) c out mw pw)
+words-leave : (c : Result ⊤ Refusal) (sheet : List ℕ) (family : ℕ) (out mw pw : List ℕ) → Leaves mw out (move_words (moved_by c sheet family out) c out mw pw)
 words-leave c sheet family out mw pw = move-leaves (eqb (length mw) 2 && eqb (length pw) 1) c (unmoved c) sheet family out mw pw
 
 pub up-call-refused : (b : List ℕ) (family : ℕ) (out mw pw : List ℕ) {r : ℕ} {mw' pw' out' : List ℕ} → UpCall b family out mw pw r mw' pw' out'

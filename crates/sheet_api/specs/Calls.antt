@@ -1,6 +1,7 @@
 -- What the calls over bytes and words return and leave. Definitions only.
-use Rattle.std.specs.Prelude.{◌≡◌, ◌&&◌, cond, List, [], ℕ, eqb, length, Float}
-use Rattle.sheet_header.specs.declared.Read.{Read}
+use Rattle.sheet_header.specs.declared.Header.{Header}
+use Rattle.refusal.specs.declared.Refusal.{Refusal}
+use Rattle.std.specs.Prelude.{◌≡◌, ◌&&◌, cond, List, [], ℕ, eqb, length, Float, Result}
 use Rattle.sheet_header.specs.Header.{header_read}
 use Rattle.sheet.specs.Sheet.{rows_read, Outcome, outcome, sheet_of}
 use Rattle.sheet_words.specs.Words.{header-words, number_in, header_in, place_words, unread}
@@ -13,7 +14,7 @@ pub data Called : Type 0 where
 unfoldable pub read_as : List ℕ → List ℕ → Outcome → Called
 read_as hw pw (outcome o x y) = called (number_in o) (header_in o hw) (place_words o pw) x y
 
-abbrev pub answer_in : Outcome → Read
+abbrev pub answer_in : Outcome → Result Header Refusal
 answer_in (outcome o x y) = o
 
 -- the sheet's bytes, R, C, header; what a header alone refuses has no place

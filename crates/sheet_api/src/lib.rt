@@ -11,26 +11,24 @@ ghost use Rattle.sheet_api.specs.Calls.{answer_in, HeaderCall, CountCall, SheetC
 ghost use Rattle.sheet_api.specs.Writing.{check_written, unwritten, WriteCall, check_moved, moved_words, unmoved, UpCall, DownCall};
 
 use c_values::{SETTINGS_WORDS, settings_from};
-use refusal::{Checked, Refusal, in_size};
+use refusal::{Refusal, in_size};
 use sheet::{count_rows, read_sheet};
 use sheet_front::{Version, front_bytes};
 use sheet_header::read_header;
 use sheet_move::{Moved, down_check, move_down, move_up, up_check};
 use sheet_words::{HEADER_WORDS, answer, answer_read, due, number_in, tell, unheld, write_header};
-use sheet_write::{Written, has_room, write_sheet};
+use sheet_write::{has_room, write_sheet};
 
 // Reads the sheet into empty slices: it is refused with 2 at the latest, since past 1 it has a row.
 fn refuse(bytes: &[u8], rows: usize, cols: usize, place: &mut [u64]) -> u64
     ensures value { result ≡ number_in (answer_in (sheet_of bytes.now rows cols [] [])) }
     ensures place_after { place.new ≡ place_words (answer_in (sheet_of bytes.now rows cols [] [])) place.old }
 {
-    let mut x = [0.0; 1];
-    let mut y = [0.0; 1];
-    let o = read_sheet(bytes, rows, cols, &mut x[0..0], &mut y[0..0]);
-    answer_read(o, place)
+    answer_read(read_sheet(bytes, rows, cols, &mut [], &mut []), place)
 }
 
 // The header of a sheet, as ten words; its n counts all rows, cancelled ones too. A refusal leaves them as they were.
+#[tactic(auto, unfolding(crate::specs::Calls::read_header_words, crate::specs::Calls::read_as))]
 pub fn xangoravit_read_header(bytes: &[u8], rows: usize, cols: usize, header: &mut [u64]) -> u64
     ensures { HeaderCall bytes.now rows cols header.old result header.new }
 {
@@ -43,6 +41,7 @@ pub fn xangoravit_read_header(bytes: &[u8], rows: usize, cols: usize, header: &m
 }
 
 // The header again, whose n is how many rows remain: x and y are lent for these. The place of a refusal is one word, and a refusal leaves the header's.
+#[tactic(auto, unfolding(crate::specs::Calls::count_rows_words, crate::specs::Calls::read_as))]
 pub fn xangoravit_count_rows(
     bytes: &[u8],
     rows: usize,
@@ -60,6 +59,7 @@ pub fn xangoravit_count_rows(
 }
 
 // A sheet into x and y, its header as ten words, and the place of a refusal as one. A refusal leaves all but the place as it was.
+#[tactic(auto, unfolding(crate::specs::Calls::read_sheet_words, crate::specs::Calls::read_as))]
 pub fn xangoravit_read_sheet(
     bytes: &[u8],
     rows: usize,
@@ -81,28 +81,21 @@ pub fn xangoravit_read_sheet(
 
 // ---- a sheet written
 
-fn check_written(o: Written) -> Checked
-    ensures { result ≡ check_written o }
-{
-    match o {
-        Written::Sheet(_) => Checked::Fine,
-        Written::Refused(r) => Checked::Bad(r),
-    }
-}
-
 // What is answered where words of the settings or of the place are missing, or too many.
-fn words_missing(v: Version, n: usize, p: usize, room: usize) -> Checked
+#[tactic(auto, unfolding(crate::specs::Writing::unwritten))]
+fn words_missing(v: Version, n: usize, p: usize, room: usize) -> Result<(), Refusal>
     ensures { result ≡ unwritten v n p room }
 {
     if !has_room(front_bytes(v), n, p, room) {
-        return Checked::Bad(Refusal::Length);
+        return Err(Refusal::Length);
     }
     if !in_size(n, p) {
-        return Checked::Bad(Refusal::Size);
+        return Err(Refusal::Size);
     }
-    Checked::Bad(Refusal::Length)
+    Err(Refusal::Length)
 }
 
+#[tactic(auto, unfolding(crate::specs::Writing::write_words))]
 fn write_in(
     v: Version,
     n: usize,
@@ -132,7 +125,7 @@ fn write_in(
         y,
         out,
     );
-    answer(check_written(o), place)
+    answer(o.map(|_| ()), place)
 }
 
 // A sheet of version 1 from n rows of p features, at the front of `out`: 38 + n(12 + 8p) bytes. The place of a refusal is one word; a refusal leaves `out`.
@@ -194,49 +187,31 @@ pub fn xangoravit_write_sheet_2(
     )
 }
 
-// ---- a sheet moved
-
-fn check_moved(o: Moved) -> Checked
-    ensures { result ≡ check_moved o }
-{
-    match o {
-        Moved::Sheet(_, _) => Checked::Fine,
-        Moved::Refused(r) => Checked::Bad(r),
-    }
-}
-
-// What is answered where words of the move or of the place are missing, or too many: 2, where nothing refuses the move.
-fn unheld_move(c: Checked) -> Checked
-    ensures { result ≡ unmoved c }
-{
-    match c {
-        Checked::Fine => Checked::Bad(Refusal::Length),
-        Checked::Bad(r) => Checked::Bad(r),
-    }
-}
+// ---- a sheet moved; where words of the move or of the place are missing, or too many, it is 2 where nothing refuses the move
 
 // Writes how many bytes there are, the family, and the place, and answers the number. A refusal leaves the first two.
-fn tell_move(o: Moved, moved: &mut [u64], place: &mut [u64]) -> u64
+fn tell_move(o: Result<Moved, Refusal>, moved: &mut [u64], place: &mut [u64]) -> u64
     requires { length moved.old ≡ 2 }
     ensures value { result ≡ number_by (check_moved o) }
     ensures moved_after { moved.new ≡ moved_words o moved.old }
     ensures place_after { place.new ≡ place_word (check_moved o) place.old }
 {
     write_moved(o, moved);
-    answer(check_moved(o), place)
+    answer(o.map(|_| ()), place)
 }
 
-fn write_moved(o: Moved, moved: &mut [u64])
+fn write_moved(o: Result<Moved, Refusal>, moved: &mut [u64])
     requires { length moved.old ≡ 2 }
     ensures { moved.new ≡ moved_words o moved.old }
 {
-    if let Moved::Sheet(k, family) = o {
-        moved[0] = k as u64;
-        moved[1] = family as u64;
+    if let Ok(m) = o {
+        moved[0] = m.bytes as u64;
+        moved[1] = u64::from(m.family);
     }
 }
 
 // A sheet of version 1 with a family, at the front of `out`. Two words: its bytes, and the family; the place of a refusal is one. A refusal leaves all but that.
+#[tactic(auto, unfolding(crate::specs::Writing::move_up_words))]
 pub fn xangoravit_move_up(
     bytes: &[u8],
     family: u32,
@@ -248,12 +223,13 @@ pub fn xangoravit_move_up(
         result moved.new place.new out.new }
 {
     if !due(moved.len(), 2, place.len()) {
-        return answer(unheld_move(up_check(bytes, out.len())), place);
+        return answer(up_check(bytes, out.len()).and(Err(Refusal::Length)), place);
     }
     tell_move(move_up(bytes, family, out), moved, place)
 }
 
 // A sheet of version 2 without its family, at the front of `out`; the family is the second word. A refusal leaves all but the place.
+#[tactic(auto, unfolding(crate::specs::Writing::move_down_words))]
 pub fn xangoravit_move_down(
     bytes: &[u8],
     out: &mut [u8],
@@ -264,7 +240,10 @@ pub fn xangoravit_move_down(
         result moved.new place.new out.new }
 {
     if !due(moved.len(), 2, place.len()) {
-        return answer(unheld_move(down_check(bytes, out.len())), place);
+        return answer(
+            down_check(bytes, out.len()).and(Err(Refusal::Length)),
+            place,
+        );
     }
     tell_move(move_down(bytes, out), moved, place)
 }

@@ -1,5 +1,8 @@
 -- Two sheets that the reader's header check accepts and that have one body have one text, although one may be of version 2, and 4 bytes longer.
 -- Assumes nothing.
+use Rattle.sheet_header.specs.declared.Header.{Header}
+use Rattle.refusal.specs.declared.Refusal.{Refusal}
+use Rattle.std.specs.Prelude.{Ok, Err, Result}
 use mathlib.Core.Path.{◌≡◌, refl, sym, ap, ◌∙◌}
 use mathlib.Core.Logic.{◌⊎◌, inl, inr}
 use mathlib.Core.List.{List}
@@ -11,10 +14,7 @@ use lib.Dec.{leb}
 use lib.ListN.{length}
 use lib.Ieee.{Float}
 use Rattle.refusal.specs.declared.Refusal.TheVariants.{TooLarge}
-use Rattle.refusal.specs.declared.Checked.TheVariants.{Fine}
 use Rattle.sheet_front.specs.Front.{version_of, body_of}
-use Rattle.sheet_header.specs.declared.Read.{Read}
-use Rattle.sheet_header.specs.declared.Read.TheVariants.{Sheet, Refused}
 use Rattle.sheet_header.specs.Header.{row-bytes, header_of, header_check}
 use Rattle.sheet_header.proofs.Checks.{Headed, fixed-most}
 use Rattle.sheet_header.proofs.Laws.{HeaderRefusal, header-told, every-header, headed-read}
@@ -52,13 +52,13 @@ pub same-sized : (b b' : List ℕ) → rows_read b 32 8 ≡ rows_read b' 32 8 �
     → (n n' p : ℕ) → leb n 256 ≡ leb n' 256 → sized_text b n p ≡ sized_text b' n' p
 unfolding sized_text lent_text
 same-sized b b' e f n n' p t = rw (t, e, counted (rows_read b' 32 8)) where
-  counted : (r : Read) → counted_text b r ≡ counted_text b' r
-  counted (Refused r) = refl
-  counted (Sheet h) = ap read_text (f _ _)
+  counted : (r : Result Header Refusal) → counted_text b r ≡ counted_text b' r
+  counted (Err r) = refl
+  counted (Ok h) = ap read_text (f _ _)
 
 -- ---- two with one body
 
-headed : (b : List ℕ) → header_check b ≡ Fine → Headed b
+headed : (b : List ℕ) → header_check b ≡ Ok tt → Headed b
 headed b e = go (every-header 1 2 b) where
   go : Headed b ⊎ ((k : ℕ) × (i : ℕ) × HeaderRefusal b k i) → Headed b
   go (inl h) = h
@@ -67,7 +67,7 @@ headed b e = go (every-header 1 2 b) where
       let z : ◌≡◌ {A = ℕ} 0 1 = cc in
       absurd (omega arith)
 
-module _ (b b' : List ℕ) (h : header_check b ≡ Fine) (h' : header_check b' ≡ Fine) (e : body_of b ≡ body_of b') where
+module _ (b b' : List ℕ) (h : header_check b ≡ Ok tt) (h' : header_check b' ≡ Ok tt) (e : body_of b ≡ body_of b') where
   one-count : rows_read b 32 8 ≡ rows_read b' 32 8
   unfolding rows_read
   one-count = rw (h, h', e)

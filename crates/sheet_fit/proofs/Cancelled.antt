@@ -1,13 +1,14 @@
 -- Two sheets that agree in all but the features of cancelled rows have one text; so have a sheet of at most 256 rows and the one without those of them that are
 -- cancelled. Assumes nothing.
+use Rattle.sheet_header.specs.declared.Header.{Header}
+use Rattle.refusal.specs.declared.Refusal.{Refusal}
+use Rattle.std.specs.Prelude.{Err, Ok, Result}
 use mathlib.Core.Path.{◌≡◌, refl, sym, ◌∙◌}
 use mathlib.Core.List.{List}
 use Prim.Native.Nat.{ℕ, ◌≤◌}
 use native.Mathlib.Omega.{arith}
 use borrow.Author.Tests.{le-leb}
 use Rattle.sheet_front.specs.Front.{body_of}
-use Rattle.sheet_header.specs.declared.Read.{Read}
-use Rattle.sheet_header.specs.declared.Read.TheVariants.{Sheet, Refused}
 use Rattle.sheet_header.specs.Header.{header_read}
 use Rattle.sheet.proofs.Remaining.{place-most}
 use Rattle.sheet.proofs.Laws.{rows_in, columns-in, BytesFine}
@@ -17,9 +18,9 @@ use Rattle.sheet_fit.specs.SheetFit.{headed_text, sheet_text}
 use Rattle.sheet_fit.proofs.Alike.{sized-text, same-sized}
 
 module _ (b b' : List ℕ) (a : Alike b b') where
-  headed : (r : Read) → headed_text b r ≡ headed_text b' r
-  headed (Refused r) = refl
-  headed (Sheet h) = same-sized b b' (same_count b b' a 32 8) (cancelled-ignored b b' a 32 8) h.n h.n h.p refl
+  headed : (r : Result Header Refusal) → headed_text b r ≡ headed_text b' r
+  headed (Err r) = refl
+  headed (Ok h) = same-sized b b' (same_count b b' a 32 8) (cancelled-ignored b b' a 32 8) h.n h.n h.p refl
 
   pub cancelled-unread : sheet_text b ≡ sheet_text b'
   unfolding sheet_text

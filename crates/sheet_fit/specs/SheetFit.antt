@@ -1,5 +1,6 @@
 -- What the program answers to a sheet: the text of its fit, or of the first refusal in 01's order. Definitions only.
-use Rattle.std.specs.Prelude.{◌≡◌, ◌&&◌, cond, List, [], ℕ, ◌*◌, leb, ltb, length, Float}
+use Rattle.sheet_header.specs.declared.Header.{Header}
+use Rattle.std.specs.Prelude.{◌≡◌, ◌&&◌, cond, List, [], ℕ, ◌*◌, leb, ltb, length, Float, Err, Ok, Result}
 use Rattle.std.specs.Float.{binary64}
 use Rattle.std.specs.Float.Ieee.{to_bits}
 use Rattle.arrays.specs.Part.{tab}
@@ -14,8 +15,6 @@ use Rattle.settings.specs.declared.Settings.{Settings}
 use Rattle.records.specs.declared.Counts.{Counts}
 use Rattle.elastic_net.specs.ElasticNet.{Said, pending, converged, limit, refused, Outcome}
 use Rattle.whole_fit.specs.Fit.{whole_of}
-use Rattle.sheet_header.specs.declared.Read.{Read}
-use Rattle.sheet_header.specs.declared.Read.TheVariants.{Sheet, Refused}
 use Rattle.sheet_header.specs.Header.{header_read}
 use Rattle.sheet.specs.Sheet.{rows_read, outcome, sheet_of}
 use Rattle.sheet.specs.Sheet.{Outcome as SheetOutcome}
@@ -46,25 +45,25 @@ unfoldable pub fit_text : ℕ → ℕ → Settings → List Float → List Float
 fit_text n p st x y = whole_text p (whole_of n p x y st (fill_of plus0 6336) (fill_of plus0 p))
 
 abbrev pub read_text : SheetOutcome → List ℕ
-read_text (outcome (Refused r) x y) = refusal_text r
-read_text (outcome (Sheet h) x y) = fit_text h.n h.p h.settings x y
+read_text (outcome (Err r) x y) = refusal_text r
+read_text (outcome (Ok h) x y) = fit_text h.n h.p h.settings x y
 
 -- matrix and targets have room for n rows of p features
 unfoldable pub lent_text : List ℕ → ℕ → ℕ → List ℕ
 lent_text b n p = read_text (sheet_of b 32 8 (fill_of plus0 (n * p)) (fill_of plus0 n))
 
 -- they are lent for the rows that remain
-abbrev pub counted_text : List ℕ → Read → List ℕ
-counted_text b (Refused r) = refusal_text r
-counted_text b (Sheet h) = lent_text b h.n h.p
+abbrev pub counted_text : List ℕ → Result Header Refusal → List ℕ
+counted_text b (Err r) = refusal_text r
+counted_text b (Ok h) = lent_text b h.n h.p
 
 -- n rows, cancelled ones too, of p features: 16 after 13
 unfoldable pub sized_text : List ℕ → ℕ → ℕ → List ℕ
 sized_text b n p = cond (leb n 256 && leb p 16) (counted_text b (rows_read b 32 8)) (refusal_text TooLarge)
 
-abbrev pub headed_text : List ℕ → Read → List ℕ
-headed_text b (Refused r) = refusal_text r
-headed_text b (Sheet h) = sized_text b h.n h.p
+abbrev pub headed_text : List ℕ → Result Header Refusal → List ℕ
+headed_text b (Err r) = refusal_text r
+headed_text b (Ok h) = sized_text b h.n h.p
 
 -- 16 beyond 35,882 bytes, whatever the version, ahead of everything
 unfoldable pub sheet_text : List ℕ → List ℕ

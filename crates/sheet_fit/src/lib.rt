@@ -11,12 +11,11 @@ ghost use Rattle.sheet_fit.specs.SheetFit.{refusal_text, bits_of, ended_text, an
 
 use answer_text::{write_done, write_refused};
 use numbers::bits::bits_of;
-use records::Counts;
-use refusal::{Refusal, Way, number, place};
+use refusal::{Refusal, number, place};
 use settings::Settings;
 use sheet::{count_rows, read_sheet};
-use sheet_header::{Read, read_header};
-use whole_fit::{Final, fit};
+use sheet_header::read_header;
+use whole_fit::{Fitted, fit};
 
 fn refused(out: &mut [u8], r: Refusal) -> usize
     ensures { written result out.new ≡ laid (refusal_text r) out.old }
@@ -35,23 +34,28 @@ fn bits_from(w: &[f64], p: usize, out: &mut [u64])
     }
 }
 
-fn ended(out: &mut [u8], e: Way, b: f64, c: Counts, w: &[u64]) -> usize
+fn ended(out: &mut [u8], f: Fitted, w: &[u64]) -> usize
     requires { length w.now ≤ 16 }
-    ensures { written result out.new ≡ laid (ended_text e b c w.now) out.old }
+    ensures { written result out.new ≡ laid (ended_text f.way f.intercept f.counts w.now) out.old }
 {
-    let r = c.rounds;
-    let s = c.solver;
-    let t = c.trials;
-    write_done(out, e, r.0, s.0, t.0, bits_of(b), w)
+    write_done(
+        out,
+        f.way,
+        f.counts.rounds.0,
+        f.counts.solver.0,
+        f.counts.trials.0,
+        bits_of(f.intercept),
+        w,
+    )
 }
 
-fn answered(out: &mut [u8], a: Final, w: &[u64]) -> usize
+fn answered(out: &mut [u8], a: Result<Fitted, Refusal>, w: &[u64]) -> usize
     requires { length w.now ≤ 16 }
     ensures { written result out.new ≡ laid (answer_text (said_final a) w.now) out.old }
 {
     match a {
-        Final::Done(b, way, c) => ended(out, way, b, c, w),
-        Final::Refused(r) => refused(out, r),
+        Ok(f) => ended(out, f, w),
+        Err(r) => refused(out, r),
     }
 }
 
@@ -75,8 +79,7 @@ fn fitted_in(
 {
     let r = fit(n, p, x, y, st, s, w);
     bits_from(w, p, bits);
-    let a = r.answer;
-    answered(out, a, bits)
+    answered(out, r.answer, bits)
 }
 
 // The same in memory of its own: 6,336 words are what 256 rows of 16 features need.
@@ -106,8 +109,8 @@ fn read_in(b: &[u8], x: &mut [f64], y: &mut [f64], out: &mut [u8]) -> usize
     ensures { written result out.new ≡ laid (read_text (sheet_of b.now 32 8 x.old y.old)) out.old }
 {
     match read_sheet(b, 32, 8, x, y) {
-        Read::Refused(r) => refused(out, r),
-        Read::Sheet(h) => fitted(h.n, h.p, h.settings, x, y, out),
+        Err(r) => refused(out, r),
+        Ok(h) => fitted(h.n, h.p, h.settings, x, y, out),
     }
 }
 
@@ -124,25 +127,24 @@ fn counted(b: &[u8], n: usize, p: usize, out: &mut [u8]) -> usize
 }
 
 // A sheet whose header is read: n rows of p features, cancelled ones too, refused with 16 where there are more than 256 or 16.
+#[tactic(auto, unfolding(crate::specs::SheetFit::sized_text))]
 fn headed(b: &[u8], n: usize, p: usize, out: &mut [u8]) -> usize
     requires n_value { n ≡ n_of (body_of b.now) }
     requires p_value { p ≡ p_of (body_of b.now) }
     ensures { written result out.new ≡ laid (sized_text b.now n p) out.old }
 {
-    if n > 256 {
-        return refused(out, Refusal::TooLarge);
-    }
-    if p > 16 {
+    if n > 256 || p > 16 {
         return refused(out, Refusal::TooLarge);
     }
     match count_rows(b, 32, 8) {
-        Read::Refused(r) => refused(out, r),
-        Read::Sheet(h) => counted(b, h.n, h.p, out),
+        Err(r) => refused(out, r),
+        Ok(h) => counted(b, h.n, h.p, out),
     }
 }
 
 // Writes the text of a sheet's fit, or of its refusal, at the front of `out` and answers its length. It needs 2,048 bytes: with fewer it writes nothing and
 // answers 0. Total, for all bytes.
+#[tactic(auto, unfolding(crate::specs::SheetFit::sheet_text))]
 pub fn fit_sheet(b: &[u8], out: &mut [u8]) -> usize
     ensures { written result out.new ≡ laid (sheet_text b.now) out.old }
 {
@@ -150,7 +152,7 @@ pub fn fit_sheet(b: &[u8], out: &mut [u8]) -> usize
         return refused(out, Refusal::TooLarge);
     }
     match read_header(b, 32, 8) {
-        Read::Refused(r) => refused(out, r),
-        Read::Sheet(h) => headed(b, h.n, h.p, out),
+        Err(r) => refused(out, r),
+        Ok(h) => headed(b, h.n, h.p, out),
     }
 }

@@ -1,4 +1,6 @@
 -- The refusals 11 to 13 as what holds and not as tests, and each test by them. Assumes nothing.
+use Rattle.refusal.specs.declared.Refusal.{Refusal}
+use Rattle.std.specs.Prelude.{Result, ⊤, Ok, Err}
 use mathlib.Core.Path.{◌≡◌, refl}
 use mathlib.Core.Bool.{Bool, true, false, ◌&&◌, cond}
 use mathlib.Core.List.{List}
@@ -9,8 +11,6 @@ use lib.Dec.{leb, eqb}
 use lib.ListN.{length, length-drop}
 use borrow.Author.Tests.{leb-true, eqb-true, le-leb, lt-leb, eq-eqb}
 use Rattle.refusal.specs.declared.Refusal.TheVariants.{Version, SheetLength, Flags}
-use Rattle.refusal.specs.declared.Checked.{Checked}
-use Rattle.refusal.specs.declared.Checked.TheVariants.{Fine, Bad}
 use Rattle.refusal.specs.Checks.{ask}
 use Rattle.refusal.proofs.Asking.{refuted, known_by, both_true}
 use Rattle.sheet_front.specs.Front.{version_of, rest_of, body_at, body_of}
@@ -53,7 +53,7 @@ fixed-most v = go (eqb v 2) where
   go false = omega arith
 
 -- both tests of the length have one refusal
-length-refused : (s t : Bool) (rest : Checked) → (s && t ≡ true → ⊥) → ask s SheetLength (ask t SheetLength rest) ≡ Bad SheetLength
+length-refused : (s t : Bool) (rest : Result ⊤ Refusal) → (s && t ≡ true → ⊥) → ask s SheetLength (ask t SheetLength rest) ≡ Err SheetLength
 length-refused false t rest h = refl
 length-refused true false rest h = refl
 length-refused true true rest h = absurd (h refl)
@@ -97,26 +97,26 @@ module _ (first last : ℕ) (b : List ℕ) where
   version-known = known_by version_of_lem version-good
 
   module _ (begun : 5 ≤ length b) where
-    pub bad-version : (VersionIn first last b → ⊥) → accept_check first last b ≡ Bad Version
+    pub bad-version : (VersionIn first last b → ⊥) → accept_check first last b ≡ Err Version
     unfolding accept_check
     bad-version h = rw (le-leb 5 (length b) begun, refuted version-test (λ t. h (version_of_lem t)))
 
     module _ (version : VersionIn first last b) where
-      pub bad-measure : (Measured b → ⊥) → accept_check first last b ≡ Bad SheetLength
+      pub bad-measure : (Measured b → ⊥) → accept_check first last b ≡ Err SheetLength
       unfolding accept_check body_check
       bad-measure h = rw (le-leb 5 (length b) begun, version-good version) (length-refused (field-test b) (rows-test b) _ (λ t. h (measured-of b t)))
 
-      pub bad-flags : Measured b → 3 < flags_of (body_of b) → accept_check first last b ≡ Bad Flags
+      pub bad-flags : Measured b → 3 < flags_of (body_of b) → accept_check first last b ≡ Err Flags
       unfolding accept_check body_check
       bad-flags m h =
           let t = measured-good b m in
           rw (le-leb 5 (length b) begun, version-good version, t.0, t.1, lt-leb (flags_of (body_of b)) 3 h)
 
-  pub bad-start : length b < 5 → accept_check first last b ≡ Bad SheetLength
+  pub bad-start : length b < 5 → accept_check first last b ≡ Err SheetLength
   unfolding accept_check
   bad-start h = rw (lt-leb 5 (length b) h)
 
-  pub good-header : HeadedIn first last b → accept_check first last b ≡ Fine
+  pub good-header : HeadedIn first last b → accept_check first last b ≡ Ok tt
   unfolding accept_check body_check
   good-header h =
       let t = measured-good b h.measured in

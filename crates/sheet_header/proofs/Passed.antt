@@ -1,4 +1,6 @@
 -- What a header's checks that are passed say of the bytes. Assumes nothing.
+use Rattle.refusal.specs.declared.Refusal.{Refusal}
+use Rattle.std.specs.Prelude.{Result, ⊤, Ok, Err}
 use mathlib.Core.Path.{◌≡◌, refl, sym, ap, ◌∙◌}
 use mathlib.Core.Bool.{◌&&◌}
 use mathlib.Core.List.{List}
@@ -10,13 +12,9 @@ use lib.ListN.{length, take, drop, length-drop}
 use lib.Seq.{take_all}
 use borrow.Author.Tests.{leb-true, eqb-true, le-leb, eq-eqb}
 use Rattle.refusal.specs.declared.Refusal.TheVariants.{Version, SheetLength}
-use Rattle.refusal.specs.declared.Checked.{Checked}
-use Rattle.refusal.specs.declared.Checked.TheVariants.{Fine, Bad}
 use Rattle.refusal.proofs.Asking.{ask-fine, both_true}
 use Rattle.sheet_front.specs.Front.{version_of, rest_of, body_at, body_of}
 use Rattle.sheet_header.specs.declared.Header.{Header}
-use Rattle.sheet_header.specs.declared.Read.{Read}
-use Rattle.sheet_header.specs.declared.Read.TheVariants.{Sheet}
 use Rattle.sheet_header.specs.Header.{n_of, p_of, row_at, body_check, accept_check, read_by}
 
 -- the part that is lent from `at` on, as the code has it
@@ -43,10 +41,10 @@ pub record Accepted (first last : ℕ) (b : List ℕ) : Type 0 where
   pub least : first ≤ version_of b
   pub most : version_of b ≤ last
   pub rest : rest_of b + 5 ≡ length b
-  pub body : body_check (body_of b) ≡ Fine
+  pub body : body_check (body_of b) ≡ Ok tt
 
 module _ (first last : ℕ) (b : List ℕ) where
-  pub accepted : accept_check first last b ≡ Fine → Accepted first last b
+  pub accepted : accept_check first last b ≡ Ok tt → Accepted first last b
   unfolding accept_check
   accepted e =
       let h₁ = ask-fine (leb 5 (length b)) SheetLength _ e in
@@ -55,21 +53,32 @@ module _ (first last : ℕ) (b : List ℕ) where
       let v = both_true (leb first (version_of b)) (leb (version_of b) last) h₂.0 in
       record { begun = leb-true _ _ h₁.0; least = leb-true _ _ v.0; most = leb-true _ _ v.1; rest = eqb-true _ _ h₃.0; body = h₃.1 }
 
-  pub accept-fine : Accepted first last b → accept_check first last b ≡ Fine
+  pub accept-fine : Accepted first last b → accept_check first last b ≡ Ok tt
   unfolding accept_check
   accept-fine a =
       rw (le-leb 5 (length b) a.begun, le-leb first (version_of b) a.least, le-leb (version_of b) last a.most, eq-eqb (rest_of b + 5) (length b) a.rest)
       a.body
 
-  pub laid-fine : (k : Checked) → k ≡ accept_check first last b → k ≡ Fine → Laid (body_of b)
+  pub laid-fine : (k : Result ⊤ Refusal) → k ≡ accept_check first last b → k ≡ Ok tt → Laid (body_of b)
   unfolding body_check
   laid-fine k e f =
       let d = body_of b in
       eqb-true _ _ (ask-fine (eqb (length d) (row_at (p_of d) (n_of d))) SheetLength _ (accepted (sym e ∙ f)).body).0
 
+-- where the check is passed, the body begins within the sheet, and is there as it is lent
+pub record BodyThere (b : List ℕ) (at : ℕ) : Type 0 where
+  pub within : at ≤ length b
+  pub laid : Laid (lent-from b at)
+
+pub body-there : (first last : ℕ) (b : List ℕ) (k : Result ⊤ Refusal) (at : ℕ) → k ≡ accept_check first last b → k ≡ Ok tt → at ≡ body_at (version_of b)
+    → BodyThere b at
+body-there first last b k at e f a =
+    let l = laid-fine first last b k e f in
+    record { within = body-within b at a l; laid = rw (body-lent b at a) l }
+
 -- what is read has passed its check
-pub passed : {h : Header} (k : Checked) {o : Read} → Sheet h ≡ read_by k o → (k ≡ Fine) × (Sheet h ≡ o)
-passed Fine e = (refl, e)
-passed (Bad q) e =
+pub passed : {h : Header} (k : Result ⊤ Refusal) {o : Result Header Refusal} → Ok h ≡ read_by k o → (k ≡ Ok tt) × (Ok h ≡ o)
+passed (Ok tt) e = (refl, e)
+passed (Err q) e =
     let z : ◌≡◌ {A = ℕ} 0 1 = cc in
     absurd (omega arith)

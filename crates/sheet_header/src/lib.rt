@@ -1,12 +1,12 @@
 // The training sheet up to its rows: the checks of its front and of the header in front of its body, and what the header says.
 #![tactic(auto)]
 
-ghost use Rattle.std.specs.Prelude.{◌≡◌, cond, ◌+◌, ◌^◌, ◌≤◌, ◌<◌, length};
+ghost use Rattle.std.specs.Prelude.{◌≡◌, ◌+◌, ◌^◌, ◌≤◌, ◌<◌, length};
 ghost use Rattle.sheet_header.specs.Flags.{flags_fine, flags_for};
 ghost use Rattle.sheet_header.specs.Header.{row_at, row-bytes, body_check, accept_check, header_of, header_read};
 
 use big_endian::{big_endian, float_at, two_bytes};
-use refusal::{Checked, Refusal};
+use refusal::Refusal;
 use settings::Settings;
 use sheet_front::body_at;
 
@@ -40,63 +40,48 @@ pub struct Header {
     pub settings: Settings,
 }
 
-#[derive(Clone, Copy)]
-pub enum Read {
-    Sheet(Header),
-    Refused(Refusal),
-}
-
 // Reads the header alone, with the refusals 11 to 13; its n counts all rows, cancelled ones too. R and C are not in a sheet, so the caller gives them.
-pub fn read_header(b: &[u8], rows: usize, cols: usize) -> Read
+#[tactic(auto, unfolding(crate::specs::Header::header_read))]
+pub fn read_header(b: &[u8], rows: usize, cols: usize) -> Result<Header, Refusal>
     ensures { result ≡ header_read b.now rows cols }
 {
-    let c = header_check(b, FIRST, LAST);
-    if let Checked::Bad(k) = c {
-        return Read::Refused(k);
-    }
+    header_check(b, FIRST, LAST)?;
     let body = &b[body_at(b)..];
-    Read::Sheet(header_of(body, two_bytes(body, N_AT), rows, cols))
+    Ok(header_of(body, two_bytes(body, N_AT), rows, cols))
 }
 
 // ---- the refusals; in `body_check` and `header_of` b is a body
 
 // Refusals 11 to 13, where the versions from `first` to `last` are accepted. Fewer than five bytes are refused for their length, before the version is read.
-pub fn header_check(b: &[u8], first: u8, last: u8) -> Checked
+#[tactic(auto, unfolding(crate::specs::Header::accept_check, crate::specs::Header::body_check))]
+pub fn header_check(b: &[u8], first: u8, last: u8) -> Result<(), Refusal>
     ensures { result ≡ accept_check first last b.now }
 {
     if b.len() < 5 {
-        return Checked::Bad(Refusal::SheetLength);
+        return Err(Refusal::SheetLength);
     }
-    if b[0] < first {
-        return Checked::Bad(Refusal::Version);
-    }
-    if b[0] > last {
-        return Checked::Bad(Refusal::Version);
-    }
-    if big_endian(b, 1, 4) + 5 != b.len() as u64 {
-        return Checked::Bad(Refusal::SheetLength);
+    if b[0] < first || last < b[0] {
+        return Err(Refusal::Version);
     }
     let at = body_at(b);
-    if b.len() < at {
-        return Checked::Bad(Refusal::SheetLength);
+    if big_endian(b, 1, 4) + 5 != b.len() as u64 || b.len() < at {
+        return Err(Refusal::SheetLength);
     }
     body_check(&b[at..])
 }
 
 // The body's length against its n and p, then its flags.
-fn body_check(b: &[u8]) -> Checked
+#[tactic(auto, unfolding(crate::specs::Header::body_check))]
+fn body_check(b: &[u8]) -> Result<(), Refusal>
     ensures { result ≡ body_check b.now }
 {
-    if b.len() < ROWS_AT {
-        return Checked::Bad(Refusal::SheetLength);
-    }
-    if b.len() != row_at(two_bytes(b, P_AT), two_bytes(b, N_AT)) {
-        return Checked::Bad(Refusal::SheetLength);
+    if b.len() < ROWS_AT || b.len() != row_at(two_bytes(b, P_AT), two_bytes(b, N_AT)) {
+        return Err(Refusal::SheetLength);
     }
     if !flags_fine(b[FLAGS_AT]) {
-        return Checked::Bad(Refusal::Flags);
+        return Err(Refusal::Flags);
     }
-    Checked::Fine
+    Ok(())
 }
 
 // Where row i begins.
@@ -118,18 +103,13 @@ fn flags_fine(flags: u8) -> bool
 pub fn flags_for(st: Settings) -> u8
     ensures { result ≡ flags_for st }
 {
-    flag(st.normalise, 1) + flag(st.lazy, 2)
-}
-
-fn flag(set: bool, worth: u8) -> u8
-    ensures { (result ≡ cond set worth 0) × (result ≤ worth) }
-{
-    if set { worth } else { 0 }
+    u8::from(st.normalise) + 2 * u8::from(st.lazy)
 }
 
 // ---- the header
 
 // The caller says which rows n counts.
+#[tactic(auto, unfolding(crate::specs::Header::header_of))]
 pub fn header_of(b: &[u8], n: usize, rows: usize, cols: usize) -> Header
     requires { 33 ≤ length b.now }
     ensures { result ≡ header_of b.now n rows cols }

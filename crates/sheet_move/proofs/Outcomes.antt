@@ -1,4 +1,5 @@
 -- The ways out of the two calls. Assumes nothing.
+use Rattle.std.specs.Prelude.{Result, ⊤, Ok, Err}
 use mathlib.Core.Path.{◌≡◌, sym, ◌∙◌}
 use mathlib.Core.List.{List}
 use Prim.Native.Nat.{ℕ, ◌+◌, ◌-◌}
@@ -6,14 +7,11 @@ use native.Mathlib.Omega.{arith}
 use lib.ListN.{length}
 use Rattle.arrays.specs.Part.{put}
 use Rattle.refusal.specs.declared.Refusal.{Refusal}
-use Rattle.refusal.specs.declared.Checked.{Checked}
-use Rattle.refusal.specs.declared.Checked.TheVariants.{Fine, Bad}
 use Rattle.sheet_front.specs.declared.Version.TheVariants.{One, Two}
 use Rattle.sheet_front.specs.Front.{family_of, body_of, sheet_with}
 use Rattle.sheet_front.proofs.Front.{sheet-long}
 use Rattle.sheet_header.proofs.Passed.{lent-from, body-lent}
-use Rattle.sheet_move.specs.declared.Moved.TheVariants.{Sheet, Refused}
-use Rattle.sheet_move.specs.Move.{up_of, down_of, up_check, down_check, Outcome.outcome, up_move, down_move}
+use Rattle.sheet_move.specs.Move.{moved_with, up_of, down_of, up_check, down_check, Outcome.outcome, up_move, down_move}
 use Rattle.sheet_move.proofs.Passed.{Movable, movable, body-from, sheet-length, up-passed, down-passed}
 
 -- ---- the bytes, and the part that is lent
@@ -38,25 +36,25 @@ module _ (b : List ℕ) (m : Movable 2 b) where
 
 -- ---- the calls
 
-module _ (b : List ℕ) (family : ℕ) (out : List ℕ) (k : Checked) (e : k ≡ up_check b (length out)) where
-  pub up-refused : {q : Refusal} → k ≡ Bad q → outcome (Refused q) out ≡ up_move b family out
+module _ (b : List ℕ) (family : ℕ) (out : List ℕ) (k : Result ⊤ Refusal) (e : k ≡ up_check b (length out)) where
+  pub up-refused : {q : Refusal} → k ≡ Err q → outcome (Err q) out ≡ up_move b family out
   unfolding up_move
   up-refused f = rw (← e, f)
 
-  pub up-moved : {out' : List ℕ} → k ≡ Fine → out' ≡ put out 0 (sheet_with (Two family) (lent-from b 5))
-      → outcome (Sheet (length b + 4) family) out' ≡ up_move b family out
+  pub up-moved : {out' : List ℕ} → k ≡ Ok tt → out' ≡ put out 0 (sheet_with (Two family) (lent-from b 5))
+      → outcome (Ok (moved_with (length b + 4) family)) out' ≡ up_move b family out
   unfolding up_move
   up-moved f w =
       let m = movable 1 b (up-passed b (length out) (sym e ∙ f)).1 in
       rw (← e, f, up-length b m family, w, up-lent b m family)
 
-module _ (b out : List ℕ) (k : Checked) (e : k ≡ down_check b (length out)) where
-  pub down-refused : {q : Refusal} → k ≡ Bad q → outcome (Refused q) out ≡ down_move b out
+module _ (b out : List ℕ) (k : Result ⊤ Refusal) (e : k ≡ down_check b (length out)) where
+  pub down-refused : {q : Refusal} → k ≡ Err q → outcome (Err q) out ≡ down_move b out
   unfolding down_move
   down-refused f = rw (← e, f)
 
-  pub down-moved : {family : ℕ} {out' : List ℕ} → k ≡ Fine → family ≡ family_of b → out' ≡ put out 0 (sheet_with One (lent-from b 9))
-      → outcome (Sheet (length b - 4) family) out' ≡ down_move b out
+  pub down-moved : {family : ℕ} {out' : List ℕ} → k ≡ Ok tt → family ≡ family_of b → out' ≡ put out 0 (sheet_with One (lent-from b 9))
+      → outcome (Ok (moved_with (length b - 4) family)) out' ≡ down_move b out
   unfolding down_move
   down-moved f g w =
       let m = movable 2 b (down-passed b (length out) (sym e ∙ f)).1 in

@@ -1,4 +1,6 @@
 -- What a move's check that is passed says of the sheet: its version, its length, and that of its body. Assumes nothing.
+use Rattle.refusal.specs.declared.Refusal.{Refusal}
+use Rattle.std.specs.Prelude.{Result, ⊤, Ok, Err}
 use mathlib.Core.Path.{◌≡◌, refl, sym, ap}
 use mathlib.Core.Bool.{Bool, true, false, cond}
 use mathlib.Core.List.{List}
@@ -10,8 +12,6 @@ use lib.ListN.{length, length-drop}
 use lib.Seq.{get_or-drop}
 use borrow.Author.Tests.{leb-true}
 use Rattle.refusal.specs.declared.Refusal.TheVariants.{Size, Length}
-use Rattle.refusal.specs.declared.Checked.{Checked}
-use Rattle.refusal.specs.declared.Checked.TheVariants.{Fine, Bad}
 use Rattle.refusal.specs.Checks.{ask}
 use Rattle.refusal.specs.Sizes.{in_size}
 use Rattle.refusal.proofs.Asking.{ask-fine}
@@ -25,9 +25,9 @@ use Rattle.sheet.specs.Rows.{ahead, rows_from}
 use Rattle.sheet.specs.Sheet.{remains}
 use Rattle.sheet_move.specs.Move.{body_moves, move_check, up_check, down_check}
 
-ahead-fine : (c d : Checked) → ahead c d ≡ Fine → (c ≡ Fine) × (d ≡ Fine)
-ahead-fine Fine d e = (refl, e)
-ahead-fine (Bad r) d e =
+ahead-fine : (c d : Result ⊤ Refusal) → ahead c d ≡ Ok tt → (c ≡ Ok tt) × (d ≡ Ok tt)
+ahead-fine (Ok tt) d e = (refl, e)
+ahead-fine (Err r) d e =
     let z : ◌≡◌ {A = ℕ} 0 1 = cc in
     absurd (omega arith)
 
@@ -35,16 +35,16 @@ ahead-fine (Bad r) d e =
 pub record Movable (v : ℕ) (b : List ℕ) : Type 0 where
   pub accepted : Accepted v v b
   pub laid : Laid (body_of b)
-  pub body : body_moves (body_of b) ≡ Fine
+  pub body : body_moves (body_of b) ≡ Ok tt
   pub size : InSize (remains (body_of b)) (p_of (body_of b))
 
 module _ (v : ℕ) (b : List ℕ) where
-  pub movable : move_check v b ≡ Fine → Movable v b
+  pub movable : move_check v b ≡ Ok tt → Movable v b
   unfolding move_check body_moves
   movable e =
       let d = body_of b in
       let h = ahead-fine (accept_check v v b) (body_moves d) e in
-      let s = ask-fine (in_size (remains d) (p_of d)) Size Fine (ahead-fine (rows_from d (p_of d) (n_of d) 0) _ h.1).1 in
+      let s = ask-fine (in_size (remains d) (p_of d)) Size (Ok tt) (ahead-fine (rows_from d (p_of d) (n_of d) 0) _ h.1).1 in
       record { accepted = accepted v v b h.0; laid = laid-fine v v b _ refl h.0; body = h.1; size = size_of _ _ s.0 }
 
   module _ (m : Movable v b) where
@@ -59,26 +59,26 @@ module _ (v : ℕ) (b : List ℕ) where
 
 -- ---- the checks of the calls, with the room that they ask for
 
-room-passed : (need room : ℕ) (rest : Checked) → ask (leb need room) Length rest ≡ Fine → (need ≤ room) × (rest ≡ Fine)
+room-passed : (need room : ℕ) (rest : Result ⊤ Refusal) → ask (leb need room) Length rest ≡ Ok tt → (need ≤ room) × (rest ≡ Ok tt)
 room-passed need room rest e =
     let h = ask-fine (leb need room) Length rest e in
     (leb-true _ _ h.0, h.1)
 
-pub up-passed : (b : List ℕ) (room : ℕ) → up_check b room ≡ Fine → (length b + 4 ≤ room) × (move_check 1 b ≡ Fine)
+pub up-passed : (b : List ℕ) (room : ℕ) → up_check b room ≡ Ok tt → (length b + 4 ≤ room) × (move_check 1 b ≡ Ok tt)
 unfolding up_check
 up-passed b room e = room-passed (length b + 4) room (move_check 1 b) e
 
-pub down-passed : (b : List ℕ) (room : ℕ) → down_check b room ≡ Fine → (length b - 4 ≤ room) × (move_check 2 b ≡ Fine)
+pub down-passed : (b : List ℕ) (room : ℕ) → down_check b room ≡ Ok tt → (length b - 4 ≤ room) × (move_check 2 b ≡ Ok tt)
 unfolding down_check
 down-passed b room e = room-passed (length b - 4) room (move_check 2 b) e
 
 -- the bytes that a call reads are there
-pub up_fits : (b : List ℕ) (room : ℕ) → up_check b room ≡ Fine → (5 ≤ length b) × (length b + 4 ≤ room)
+pub up_fits : (b : List ℕ) (room : ℕ) → up_check b room ≡ Ok tt → (5 ≤ length b) × (length b + 4 ≤ room)
 up_fits b room e =
     let h = up-passed b room e in
     (omega (arith, sheet-length 1 b (movable 1 b h.1)), h.0)
 
-pub down_fits : (b : List ℕ) (room : ℕ) → down_check b room ≡ Fine → (9 ≤ length b) × (length b - 4 ≤ room)
+pub down_fits : (b : List ℕ) (room : ℕ) → down_check b room ≡ Ok tt → (9 ≤ length b) × (length b - 4 ≤ room)
 down_fits b room e =
     let h = down-passed b room e in
     (omega (arith, sheet-length 2 b (movable 2 b h.1)), h.0)

@@ -8,96 +8,91 @@ ghost use Rattle.sheet_header.specs.Header.{n_of, p_of, row_at};
 ghost use Rattle.sheet_move.specs.Move.{body_moves, move_check, up_check, down_check, Outcome.outcome, up_move, down_move};
 
 use big_endian::{big_endian, two_bytes, write_bytes};
-use refusal::{Checked, Refusal, in_size};
+use refusal::{Refusal, in_size};
 use sheet::{count_remaining, rows_check};
 use sheet_front::{Version, body_at, front_bytes, write_front};
 use sheet_header::{N_AT, P_AT, header_check};
 
-#[derive(Clone, Copy)]
-pub enum Moved {
-    // how many bytes it has, and its family: the one given, or the one taken out
-    Sheet(usize, u32),
-    Refused(Refusal),
+// How many bytes a moved sheet has, and its family: the one given, or the one taken out.
+#[derive(Clone, Copy, PartialEq, Eq, Debug)]
+pub struct Moved {
+    pub bytes: usize,
+    pub family: u32,
 }
 
 // Moves a sheet of version 1 up, with a family, to the front of `out`, which may be longer. Nothing is written before every refusal is tested. Total, for all
 // input: the answer and what `out` then holds are `up_move`.
-pub fn move_up(b: &[u8], family: u32, out: &mut [u8]) -> Moved
+#[tactic(auto, unfolding(crate::specs::Move::up_move))]
+pub fn move_up(b: &[u8], family: u32, out: &mut [u8]) -> Result<Moved, Refusal>
     ensures { outcome result out.new ≡ up_move b.now family out.old }
 {
-    let c = up_check(b, out.len());
-    if let Checked::Bad(k) = c {
-        return Moved::Refused(k);
-    }
+    up_check(b, out.len())?;
     write_version(Version::Two(family), &b[5..], out);
-    Moved::Sheet(b.len() + 4, family)
+    Ok(Moved {
+        bytes: b.len() + 4,
+        family,
+    })
 }
 
 // Moves a sheet of version 2 down to the front of `out`, without its family, which the answer has. Total, for all input: answer and output are `down_move`.
-pub fn move_down(b: &[u8], out: &mut [u8]) -> Moved
+#[tactic(auto, unfolding(crate::specs::Move::down_move))]
+pub fn move_down(b: &[u8], out: &mut [u8]) -> Result<Moved, Refusal>
     ensures { outcome result out.new ≡ down_move b.now out.old }
 {
-    let c = down_check(b, out.len());
-    if let Checked::Bad(k) = c {
-        return Moved::Refused(k);
-    }
+    down_check(b, out.len())?;
     let family = big_endian(b, 5, 4) as u32;
     write_version(Version::One, &b[9..], out);
-    Moved::Sheet(b.len() - 4, family)
+    Ok(Moved {
+        bytes: b.len() - 4,
+        family,
+    })
 }
 
 // ---- the refusals
 
 // Those of `move_up` into `room` bytes.
-pub fn up_check(b: &[u8], room: usize) -> Checked
+#[tactic(auto, unfolding(crate::specs::Move::up_check))]
+pub fn up_check(b: &[u8], room: usize) -> Result<(), Refusal>
     ensures { result ≡ up_check b.now room }
 {
-    if room < 4 {
-        return Checked::Bad(Refusal::Length);
-    }
-    if room - 4 < b.len() {
-        return Checked::Bad(Refusal::Length);
+    if room < 4 || room - 4 < b.len() {
+        return Err(Refusal::Length);
     }
     move_check(b, 1)
 }
 
 // Those of `move_down`.
-pub fn down_check(b: &[u8], room: usize) -> Checked
+#[tactic(auto, unfolding(crate::specs::Move::down_check))]
+pub fn down_check(b: &[u8], room: usize) -> Result<(), Refusal>
     ensures { result ≡ down_check b.now room }
 {
-    if b.len() > 4 {
-        if room < b.len() - 4 {
-            return Checked::Bad(Refusal::Length);
-        }
+    if room < b.len().saturating_sub(4) {
+        return Err(Refusal::Length);
     }
     move_check(b, 2)
 }
 
-fn move_check(b: &[u8], version: u8) -> Checked
+#[tactic(auto, unfolding(crate::specs::Move::move_check))]
+fn move_check(b: &[u8], version: u8) -> Result<(), Refusal>
     ensures { result ≡ move_check version b.now }
 {
-    let c = header_check(b, version, version);
-    let Checked::Fine = c else {
-        return c;
-    };
+    header_check(b, version, version)?;
     body_moves(&b[body_at(b)..])
 }
 
 // b is a body.
-fn body_moves(b: &[u8]) -> Checked
+#[tactic(auto, unfolding(crate::specs::Move::body_moves))]
+fn body_moves(b: &[u8]) -> Result<(), Refusal>
     requires { length b.now ≡ row_at (p_of b.now) (n_of b.now) }
     ensures { result ≡ body_moves b.now }
 {
     let n = two_bytes(b, N_AT);
     let p = two_bytes(b, P_AT);
-    let c = rows_check(b, n, p);
-    let Checked::Fine = c else {
-        return c;
-    };
+    rows_check(b, n, p)?;
     if !in_size(count_remaining(b, n, p), p) {
-        return Checked::Bad(Refusal::Size);
+        return Err(Refusal::Size);
     }
-    Checked::Fine
+    Ok(())
 }
 
 // ---- the bytes

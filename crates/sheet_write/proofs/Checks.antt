@@ -1,4 +1,5 @@
 -- What the checks of a given sheet that are passed say of it, and the tests of its lengths and settings by what holds. Assumes nothing.
+use Rattle.std.specs.Prelude.{Ok}
 use mathlib.Core.Path.{◌≡◌}
 use mathlib.Core.Bool.{true}
 use Prim.Native.Nat.{ℕ, ◌*◌}
@@ -8,7 +9,6 @@ use lib.Ieee.{binary64, fits}
 use lib.Ieee.Bits.{is_true}
 use borrow.Author.Tests.{eqb-true, eq-eqb}
 use Rattle.refusal.specs.declared.Refusal.TheVariants.{Size, Length, Setting}
-use Rattle.refusal.specs.declared.Checked.TheVariants.{Fine}
 use Rattle.refusal.specs.Sizes.{in_size}
 use Rattle.refusal.proofs.Asking.{ask-fine, both_true, known_by}
 use Rattle.refusal.proofs.Sizes.{InSize, size_of}
@@ -55,9 +55,9 @@ pub record Passed (g : Given) : Type 0 where
   pub size : InSize g.n g.p
   pub lengths : Measured g
   pub settings : allowed_of g.settings ≡ true
-  pub claims : claims_of g ≡ Fine
+  pub claims : claims_of g ≡ Ok tt
 
-pub passed : (g : Given) → given_check g ≡ Fine → Passed g
+pub passed : (g : Given) → given_check g ≡ Ok tt → Passed g
 unfolding given_check
 passed g e =
     let h₁ = ask-fine (in_size g.n g.p) Size _ e in
@@ -66,6 +66,6 @@ passed g e =
     record { size = size_of g.n g.p h₁.0; lengths = measured g h₂.0; settings = h₃.0; claims = h₃.1 }
 
 -- past the output's room
-pub given-fine : (v : Version) (g : Given) (room : ℕ) → write_check v g room ≡ Fine → given_check g ≡ Fine
+pub given-fine : (v : Version) (g : Given) (room : ℕ) → write_check v g room ≡ Ok tt → given_check g ≡ Ok tt
 unfolding write_check
 given-fine v g room e = (ask-fine (leb (sheet_length v g.n g.p) room) Length (given_check g) e).1

@@ -1,4 +1,5 @@
 -- What rows whose claims are passed say of each claim, and that they are passed too with other bits for their scores, where 0 stays 0. Assumes nothing.
+use Rattle.std.specs.Prelude.{Ok}
 use mathlib.Core.Path.{◌≡◌, refl}
 use mathlib.Core.Logic.{◌⊎◌, inl, inr}
 use mathlib.Core.Bool.{true}
@@ -6,7 +7,6 @@ use Prim.Native.Nat.{ℕ, zero, suc, ◌+◌, ◌≤◌, ◌<◌}
 use native.Mathlib.Decide.{dec_lt}
 use native.Mathlib.Omega.{arith}
 use Rattle.refusal.specs.declared.Refusal.TheVariants.{Claim, Pair}
-use Rattle.refusal.specs.declared.Checked.TheVariants.{Fine}
 use Rattle.refusal.proofs.Asking.{ask-fine}
 use Rattle.sheet.specs.Rows.{claims_fine, rises, pairs_from}
 use Rattle.sheet.proofs.Checks.{Claims, claims-good, claims-of}
@@ -26,14 +26,14 @@ module _ (s t w : ℕ) (c : Claims s t w) where
     go (inr h) = inr (h.0, z h.1)
 
 module _ (s t w : ℕ → ℕ) where
-  first-passed : (left i : ℕ) → pairs_from s t w (suc left) i ≡ Fine → Claims (s i) (t i) (w i) × (rises s t i ≡ true) × (pairs_from s t w left (i + 1) ≡ Fine)
+  first-passed : (left i : ℕ) → pairs_from s t w (suc left) i ≡ Ok tt → Claims (s i) (t i) (w i) × (rises s t i ≡ true) × (pairs_from s t w left (i + 1) ≡ Ok tt)
   unfolding pairs_from
   first-passed left i e =
       let c = ask-fine (claims_fine (s i) (t i) (w i)) (Claim i) _ e in
       let r = ask-fine (rises s t i) (Pair i) _ c.1 in
       (claims-of (s i) (t i) (w i) c.0, r.0, r.1)
 
-  claims-passed : (left i : ℕ) → pairs_from s t w left i ≡ Fine → (j : ℕ) → i ≤ j → j < i + left → Claims (s j) (t j) (w j)
+  claims-passed : (left i : ℕ) → pairs_from s t w left i ≡ Ok tt → (j : ℕ) → i ≤ j → j < i + left → Claims (s j) (t j) (w j)
   claims-passed zero i e j h l = absurd (omega arith)
   claims-passed (suc left) i e j h l = go (dec_lt i j) (λ m. claims-passed left (i + 1) (first-passed left i e).2 j (omega arith) (omega arith)) where
     go : Dec (i < j) → (i < j → Claims (s j) (t j) (w j)) → Claims (s j) (t j) (w j)
@@ -42,11 +42,11 @@ module _ (s t w : ℕ → ℕ) where
         let q : j ≡ i = omega (arith, m) in
         rw q (first-passed left i e).0
 
-  pub passed-small : (n : ℕ) → pairs_from s t w n 0 ≡ Fine → (i : ℕ) → i < n → (s i ≤ 999) × (t i ≤ 999)
+  pub passed-small : (n : ℕ) → pairs_from s t w n 0 ≡ Ok tt → (i : ℕ) → i < n → (s i ≤ 999) × (t i ≤ 999)
   passed-small n e i h = claims-small (s i) (t i) (w i) (claims-passed n 0 e i (omega arith) (omega arith))
 
   pub pairs-kept : (w' : ℕ → ℕ) (n : ℕ) → ((i : ℕ) → i < n → w i ≡ 0 → w' i ≡ 0)
-      → (left i : ℕ) → i + left ≤ n → pairs_from s t w left i ≡ Fine → pairs_from s t w' left i ≡ Fine
+      → (left i : ℕ) → i + left ≤ n → pairs_from s t w left i ≡ Ok tt → pairs_from s t w' left i ≡ Ok tt
   unfolding pairs_from
   pairs-kept w' n z zero i h e = refl
   pairs-kept w' n z (suc left) i h e =

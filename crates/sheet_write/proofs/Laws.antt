@@ -1,4 +1,5 @@
 -- What the contract of `write_sheet` says: which refusal for which input, and that an input with no fault is written. Assumes nothing.
+use Rattle.std.specs.Prelude.{Ok, Err, Result, ℕ}
 use mathlib.Core.Path.{◌≡◌, refl, ap, ◌∙◌}
 use mathlib.Core.Logic.{◌⊎◌, inl, inr}
 use mathlib.Core.List.{List}
@@ -13,7 +14,6 @@ use Rattle.arrays.specs.Part.{put}
 use Rattle.arrays.specs.Sums.{◌!◌}
 use Rattle.refusal.specs.declared.Refusal.{Refusal}
 use Rattle.refusal.specs.declared.Refusal.TheVariants.{Size, Length, Setting, Claim, Pair}
-use Rattle.refusal.specs.declared.Checked.TheVariants.{Fine, Bad}
 use Rattle.refusal.specs.Sizes.{in_size}
 use Rattle.refusal.proofs.Asking.{refuted}
 use Rattle.refusal.proofs.Sizes.{InSize, size-good, size_of, size-known}
@@ -21,8 +21,6 @@ use Rattle.settings.specs.Settings.{allowed_of, Allowed}
 use Rattle.sheet_front.specs.declared.Version.{Version}
 use Rattle.sheet_front.specs.Front.{sheet_with}
 use Rattle.sheet.proofs.Checks.{ClaimsAt, RisesAt, FineBefore, BadAmong, rows-known, bad-claim, bad-pair, good-rows}
-use Rattle.sheet_write.specs.declared.Written.{Written}
-use Rattle.sheet_write.specs.declared.Written.TheVariants.{Sheet, Refused}
 use Rattle.sheet_write.specs.Write.{Given, body_bytes, lengths_fine, claims_of, given_check, sheet_length, write_check, Said.refused, said, written_of}
 use Rattle.sheet_write.proofs.Checks.{Measured, measured, measured-good, measured-known, allowed_of_lem, allowed-good, allowed-known}
 use Rattle.sheet_write.proofs.Unique.{Writes, outcomes-coincide}
@@ -83,11 +81,11 @@ module _ (v : Version) (g : Given) (out : List ℕ) where
   unfolding write_check
   room-check r = rw (le-leb (sheet_length v g.n g.p) (length out) r)
 
-  refuses : (q : Refusal) → write_check v g (length out) ≡ Bad q → Writes v g out (Refused q) out
+  refuses : (q : Refusal) → write_check v g (length out) ≡ Err q → Writes v g out (Err q) out
   unfolding written_of
   refuses q e = rw e
 
-  writes : write_check v g (length out) ≡ Fine → Writes v g out (Sheet (length (sheet_with v (body_bytes g)))) (put out 0 (sheet_with v (body_bytes g)))
+  writes : write_check v g (length out) ≡ Ok tt → Writes v g out (Ok (length (sheet_with v (body_bytes g)))) (put out 0 (sheet_with v (body_bytes g)))
   unfolding written_of
   writes e = rw e
 
@@ -124,7 +122,7 @@ module _ (v : Version) (g : Given) (out : List ℕ) where
         room-check h.room
         ∙ rw (size-good g.n g.p h.size, measured-good g h.lengths, allowed-good g.settings f h.settings)
 
-    told : {k i : ℕ} → FirstRefusal k i → (q : Refusal) × (write_check v g (length out) ≡ Bad q) × (said (Refused q) ≡ refused k i)
+    told : {k i : ℕ} → FirstRefusal k i → (q : Refusal) × (write_check v g (length out) ≡ Err q) × (said (Err q) ≡ refused k i)
     unfolding write_check given_check
     told (room h) = (Length, rw (lt-leb (sheet_length v g.n g.p) (length out) h), refl)
     told (size r h) = (Size, room-check r ∙ rw (refuted (in_size g.n g.p) (λ t. h (size_of g.n g.p t))), refl)
@@ -135,7 +133,7 @@ module _ (v : Version) (g : Given) (out : List ℕ) where
     told (claim h {i = i} l w n) = (Claim i, entered-check h ∙ bad-claim _ _ _ _ i l w n, refl)
     told (pair h {i = i} l w c n) = (Pair i, entered-check h ∙ bad-pair _ _ _ _ i l w c n, refl)
 
-    module _ {r : Written} {out' : List ℕ} (c : Writes v g out r out') where
+    module _ {r : Result ℕ Refusal} {out' : List ℕ} (c : Writes v g out r out') where
       -- 01's number and place are those of the first refusal that holds, and nothing is written
       pub first-refusal : {k i : ℕ} → FirstRefusal k i → (said r ≡ refused k i) × (out' ≡ out)
       first-refusal h =
@@ -144,5 +142,5 @@ module _ (v : Version) (g : Given) (out : List ℕ) where
           (ap said e.0 ∙ t.2, e.1)
 
       -- where none holds the sheet is written
-      pub written-otherwise : Writable → (r ≡ Sheet (length (sheet_with v (body_bytes g)))) × (out' ≡ put out 0 (sheet_with v (body_bytes g)))
+      pub written-otherwise : Writable → (r ≡ Ok (length (sheet_with v (body_bytes g)))) × (out' ≡ put out 0 (sheet_with v (body_bytes g)))
       written-otherwise w = outcomes-coincide v g out c (writes (entered-check w.entered ∙ good-rows _ _ _ g.n w.rows))

@@ -1,6 +1,7 @@
 -- The ways out of the call. Assumes nothing.
+use Rattle.std.specs.Prelude.{Result, ⊤, Ok}
 use mathlib.Core.Path.{◌≡◌}
-use mathlib.Core.Bool.{Bool, true, false}
+use mathlib.Core.Bool.{Bool, true}
 use mathlib.Core.List.{List}
 use Prim.Native.Nat.{ℕ, ◌+◌}
 use native.Mathlib.Omega.{arith}
@@ -8,14 +9,10 @@ use lib.Dec.{leb}
 use lib.ListN.{length}
 use Rattle.arrays.specs.Part.{put}
 use Rattle.refusal.specs.declared.Refusal.{Refusal}
-use Rattle.refusal.specs.declared.Refusal.TheVariants.{Length}
-use Rattle.refusal.specs.declared.Checked.{Checked}
-use Rattle.refusal.specs.declared.Checked.TheVariants.{Fine, Bad}
 use Rattle.sheet_front.specs.declared.Version.{Version}
 use Rattle.sheet_front.specs.Front.{front_bytes, front_of, sheet_with}
 use Rattle.sheet_front.proofs.Front.{front_long, sheet-long}
 use Rattle.sheet_header.specs.Header.{row_at}
-use Rattle.sheet_write.specs.declared.Written.TheVariants.{Sheet, Refused}
 use Rattle.sheet_write.specs.Write.{Given, head_bytes, rows_bytes, body_bytes, given_check, write_check, Outcome.outcome, written_of}
 use Rattle.sheet_write.proofs.Joined.{put_then}
 use Rattle.sheet_write.proofs.Lengths.{head-long, body-long}
@@ -31,23 +28,15 @@ module _ (v : Version) (g : Given) where
       (put_then _ at _ _ e₂ (omega (arith, head-long g.n g.p g.settings)) e₃)
 
   module _ (out : List ℕ) (at : ℕ) (ea : at ≡ front_bytes v) (r : Bool) (er : r ≡ leb (at + row_at g.p g.n) (length out)) where
-    pub no_room : r ≡ false → outcome (Refused Length) out ≡ written_of v g out
-    unfolding written_of write_check
-    no_room h = rw (← ea, ← er, h)
-
-    module _ (h : r ≡ true) (k : Checked) (ek : k ≡ given_check g) where
-      pub bad-given : {q : Refusal} → k ≡ Bad q → outcome (Refused q) out ≡ written_of v g out
-      unfolding written_of write_check
-      bad-given f = rw (← ea, ← er, h, ← ek, f)
-
-      laid : {m : ℕ} {o : List ℕ} → k ≡ Fine → m ≡ length (sheet_with v (body_bytes g)) → o ≡ put out 0 (sheet_with v (body_bytes g))
-          → outcome (Sheet m) o ≡ written_of v g out
+    module _ (h : r ≡ true) (k : Result ⊤ Refusal) (ek : k ≡ given_check g) where
+      laid : {m : ℕ} {o : List ℕ} → k ≡ Ok tt → m ≡ length (sheet_with v (body_bytes g)) → o ≡ put out 0 (sheet_with v (body_bytes g))
+          → outcome (Ok m) o ≡ written_of v g out
       unfolding written_of write_check
       laid f em eo = rw (em, eo, ← ea, ← er, h, ← ek, f)
 
-      pub all-written : (m : ℕ) {o₁ o₂ o₃ : List ℕ} → k ≡ Fine → m ≡ row_at g.p g.n → o₁ ≡ put out 0 (front_of v m)
+      pub all-written : (m : ℕ) {o₁ o₂ o₃ : List ℕ} → k ≡ Ok tt → m ≡ row_at g.p g.n → o₁ ≡ put out 0 (front_of v m)
           → o₂ ≡ put o₁ at (head_bytes g.n g.p g.settings) → o₃ ≡ put o₂ (at + 33) (rows_bytes g.p g.sources g.targets g.x g.y g.n)
-          → outcome (Sheet (at + m)) o₃ ≡ written_of v g out
+          → outcome (Ok (at + m)) o₃ ≡ written_of v g out
       all-written m f em e₁ e₂ e₃ =
           let l = body-long g in
           laid f (omega (arith, sheet-long v (body_bytes g))) (sheet-put out at ea (rw l (rw em at e₁)) e₂ e₃)

@@ -1,4 +1,5 @@
 -- What is written is read again: a sheet's header, rows and claims, and the reader's outcome for a whole sheet of either version. Assumes nothing.
+use Rattle.std.specs.Prelude.{Ok, Err}
 use mathlib.Core.Path.{◌≡◌, refl, sym, ap, ◌∙◌}
 use mathlib.Core.List.{List, [], ◌∷◌, ◌++◌, append_assoc, append-nil}
 use Prim.Native.Nat.{ℕ, ◌+◌, ◌*◌, ◌^◌, ◌≤◌, ◌<◌}
@@ -18,7 +19,6 @@ use Rattle.matrices.specs.Grid.{grid}
 use Rattle.matrices.proofs.Grid.{grid-ext}
 use Rattle.matrices.proofs.Lengths.{row_room}
 use Rattle.refusal.specs.declared.Refusal.TheVariants.{Size}
-use Rattle.refusal.specs.declared.Checked.TheVariants.{Fine}
 use Rattle.refusal.proofs.Sizes.{InSize}
 use Rattle.settings.specs.Settings.{with_panels}
 use Rattle.settings.proofs.Laws.{allowed-says}
@@ -29,7 +29,6 @@ use Rattle.sheet_front.specs.declared.Version.TheVariants.{One, Two}
 use Rattle.sheet_front.specs.Front.{sheet_with}
 use Rattle.sheet_front.proofs.Front.{sheet-long, body_back, version-number, version-back, rest_back}
 use Rattle.sheet_header.specs.Flags.{flags_for}
-use Rattle.sheet_header.specs.declared.Read.TheVariants.{Sheet, Refused}
 use Rattle.sheet_header.specs.Header.{row-bytes, row_at, n_of, p_of, max_iter_of, flags_of, body_check, header_of, accept_check, header_check}
 use Rattle.sheet_header.proofs.Flags.{flags-back}
 use Rattle.sheet_header.proofs.Passed.{accept-fine}
@@ -39,7 +38,6 @@ use Rattle.sheet.specs.Sheet.{body_rows, rows_read, Outcome, Outcome.outcome, bo
 use Rattle.sheet.proofs.Rows.{same-pairs}
 use Rattle.sheet.proofs.Remaining.{place-most, uncancelled, same_left}
 use Rattle.sheet.proofs.Checks.{good-room, bad-size}
-use Rattle.sheet_write.specs.declared.Written.TheVariants.{Sheet as SheetW}
 use Rattle.sheet_write.specs.Write.{Given, joined, head_bytes, row_bytes, rows_bytes, body_bytes, given_check}
 use Rattle.sheet_write.proofs.Joined.{joined_number}
 use Rattle.sheet_write.proofs.Lengths.{features-long, row-long, body-long}
@@ -55,7 +53,7 @@ kept g = left_of (λ i. get_or g.targets i 0) g.n
 abbrev pub read_back : Given → ℕ → ℕ → Outcome
 read_back g R C =
     outcome
-    (Sheet (record { n = length (kept g); p = g.p; settings = with_panels R C g.settings }))
+    (Ok (record { n = length (kept g); p = g.p; settings = with_panels R C g.settings }))
     (grid (λ i j. g.x ! (get_or (kept g) i 0 * g.p + j)) (length (kept g)) g.p)
     (tab (λ i. g.y ! get_or (kept g) i 0) (length (kept g)))
 
@@ -206,7 +204,7 @@ module _ (g : Given) where
       let q : at ≡ 33 + (i * row-bytes g.p + a) = omega arith in
       rw q (there d rows 33 (i * row-bytes g.p + a) k from-33 ∙ joined_number row_in (row-bytes g.p) rows-each g.n i a k h l)
 
-  module _ (ok : given_check g ≡ Fine) where
+  module _ (ok : given_check g ≡ Ok tt) where
     n-back : n_of d ≡ g.n
     n-back = number-there d 0 2 g.n end-2 (omega (arith, (passed g ok).size.rows)) from-0
 
@@ -218,7 +216,7 @@ module _ (g : Given) where
         let a = allowed-says g.settings (rw (passed g ok).settings tt) in
         number-there d 28 4 g.settings.max_iter (flags_for g.settings ∷ rows) (omega (arith, a.max_iter)) from-28
 
-    body-fine : body_check d ≡ Fine
+    body-fine : body_check d ≡ Ok tt
     unfolding body_check
     body-fine = rw (n-back, p_back, flags-there, eq-eqb (length d) (row_at g.p g.n) (body-long g), (flags-back g.settings).0)
 
@@ -247,7 +245,7 @@ module _ (g : Given) where
       no_bits : bits_in i ≡ 0 → score_bits d g.p i ≡ 0
       no_bits e = bits_back (rw e (omega arith)) ∙ e
 
-    pub rows-fine : rows_from d (p_of d) (n_of d) 0 ≡ Fine
+    pub rows-fine : rows_from d (p_of d) (n_of d) 0 ≡ Ok tt
     rows-fine = rw (n-back, p_back) (
         same-pairs g.n (λ i h. (source-back i h, target-back i h, refl)) g.n 0 (omega arith)
         ∙ pairs-kept source_in_lem target-in bits_in (score_bits d g.p) g.n no_bits g.n 0 (omega arith) (passed g ok).claims)
@@ -306,11 +304,11 @@ version-range : (v : Version) → (1 ≤ version-number v) × (version-number v 
 version-range One = (omega arith, omega arith)
 version-range (Two family) = (omega arith, omega arith)
 
-module _ (v : Version) (g : Given) (ok : given_check g ≡ Fine) where
+module _ (v : Version) (g : Given) (ok : given_check g ≡ Ok tt) where
   abbrev sheet : List ℕ
   sheet = sheet_with v (body_bytes g)
 
-  accepted-by : (first last : ℕ) → first ≤ version-number v → version-number v ≤ last → accept_check first last sheet ≡ Fine
+  accepted-by : (first last : ℕ) → first ≤ version-number v → version-number v ≤ last → accept_check first last sheet ≡ Ok tt
   accepted-by first last h l =
       let z = (passed g ok).size in
       let short : length (body_bytes g) + 4 < 2 ^ 32 = omega (arith, body-long g, mul-le-mul_right (row-bytes g.p) z.rows) in
@@ -323,10 +321,10 @@ module _ (v : Version) (g : Given) (ok : given_check g ≡ Fine) where
       })
 
   -- by a reader of its version alone, and by the reader of both
-  pub written-accepted : accept_check (version-number v) (version-number v) (sheet_with v (body_bytes g)) ≡ Fine
+  pub written-accepted : accept_check (version-number v) (version-number v) (sheet_with v (body_bytes g)) ≡ Ok tt
   written-accepted = accepted-by (version-number v) (version-number v) (omega arith) (omega arith)
 
-  written-headed : header_check (sheet_with v (body_bytes g)) ≡ Fine
+  written-headed : header_check (sheet_with v (body_bytes g)) ≡ Ok tt
   written-headed = accepted-by 1 2 (version-range v).0 (version-range v).1
 
   -- nothing in its bytes is refused
@@ -343,14 +341,14 @@ module _ (v : Version) (g : Given) (ok : given_check g ≡ Fine) where
       body-read R C x y ∙ rw (header-back g ok D (length (kept g)) R C, room, matrix-back g ok D, targets-back g ok D)
 
   -- where every row is cancelled: 1, and nothing is written
-  pub written-none-left : length (kept g) ≡ 0 → (R C : ℕ) (x y : List Float) → sheet_of (sheet_with v (body_bytes g)) R C x y ≡ outcome (Refused Size) x y
+  pub written-none-left : length (kept g) ≡ 0 → (R C : ℕ) (x y : List Float) → sheet_of (sheet_with v (body_bytes g)) R C x y ≡ outcome (Err Size) x y
   unfolding body_read header_of
   written-none-left e R C x y =
       body-read R C x y ∙ rw (bad-size (length (kept g)) (p_of (body_bytes g)) (length x) (length y) (λ z. omega (arith, z.some-rows)))
 
 -- ---- through the contract: k bytes of the output
 
-module _ (v : Version) (g : Given) (out : List ℕ) {k : ℕ} {out' : List ℕ} (c : Writes v g out (SheetW k) out') where
+module _ (v : Version) (g : Given) (out : List ℕ) {k : ℕ} {out' : List ℕ} (c : Writes v g out (Ok k) out') where
   pub written-sheet-reads : Doubles g → 1 ≤ length (kept g)
       → (R C : ℕ) (x y : List Float) → length x ≡ length (kept g) * g.p → length y ≡ length (kept g) → sheet_of (take k out') R C x y ≡ read_back g R C
   written-sheet-reads D some R C x y lx ly =

@@ -1,12 +1,11 @@
 -- A sheet written from rows: its bytes, and the refusals of 02's T-04 in their order. Definitions only.
-use Rattle.std.specs.Prelude.{Bool, ◌&&◌, List, [], ◌∷◌, ◌++◌, ℕ, zero, suc, ◌+◌, ◌*◌, leb, eqb, length, get_or, Float}
+use Rattle.refusal.specs.declared.Refusal.{Refusal}
+use Rattle.std.specs.Prelude.{Bool, ◌&&◌, List, [], ◌∷◌, ◌++◌, ℕ, zero, suc, ◌+◌, ◌*◌, leb, eqb, length, get_or, Float, Result, ⊤, Ok, Err}
 use Rattle.std.specs.Float.{binary64}
 use Rattle.std.specs.Float.Ieee.{to_bits}
 use Rattle.arrays.specs.Part.{put}
 use Rattle.arrays.specs.Sums.{◌!◌}
 use Rattle.refusal.specs.declared.Refusal.TheVariants.{Size, Length, Setting}
-use Rattle.refusal.specs.declared.Checked.{Checked}
-use Rattle.refusal.specs.declared.Checked.TheVariants.{Fine, Bad}
 use Rattle.refusal.specs.Refusal.{number_of, place_of}
 use Rattle.refusal.specs.Checks.{ask}
 use Rattle.refusal.specs.Sizes.{in_size}
@@ -18,8 +17,6 @@ use Rattle.sheet_front.specs.Front.{front_bytes, sheet_with}
 use Rattle.sheet_header.specs.Flags.{flags_for}
 use Rattle.sheet_header.specs.Header.{row_at}
 use Rattle.sheet.specs.Rows.{pairs_from}
-use Rattle.sheet_write.specs.declared.Written.{Written}
-use Rattle.sheet_write.specs.declared.Written.TheVariants.{Sheet, Refused}
 
 -- what is written: every row, cancelled ones too
 pub record Given : Type 0 where
@@ -65,11 +62,11 @@ abbrev pub lengths_fine : Given → Bool
 lengths_fine g = eqb (length g.sources) g.n && eqb (length g.targets) g.n && eqb (length g.y) g.n && eqb (length g.x) (g.n * g.p)
 
 -- 14 and 15 of its rows
-abbrev pub claims_of : Given → Checked
+abbrev pub claims_of : Given → Result ⊤ Refusal
 claims_of g = pairs_from (λ i. get_or g.sources i 0) (λ i. get_or g.targets i 0) (λ i. to_bits binary64 (g.y ! i)) g.n 0
 
 -- 1, by all rows; 2; 3; 14 and 15
-unfoldable pub given_check : Given → Checked
+unfoldable pub given_check : Given → Result ⊤ Refusal
 given_check g =
     ask (in_size g.n g.p) Size
     (ask (lengths_fine g) Length
@@ -81,27 +78,27 @@ abbrev pub sheet_length : Version → ℕ → ℕ → ℕ
 sheet_length v n p = front_bytes v + row_at p n
 
 -- ahead of all others 2, where the output has not so many
-unfoldable pub write_check : Version → Given → ℕ → Checked
+unfoldable pub write_check : Version → Given → ℕ → Result ⊤ Refusal
 write_check v g room = ask (leb (sheet_length v g.n g.p) room) Length (given_check g)
 
 -- ---- the whole call: the answer, and the final content of the output
 
 pub data Outcome : Type 0 where
-  outcome : Written → List ℕ → Outcome
+  outcome : Result ℕ Refusal → List ℕ → Outcome
 
 -- how many bytes are written; 01's number and place
 pub data Said : Type 0 where
   sheet : ℕ → Said
   refused : ℕ → ℕ → Said
 
-abbrev pub said : Written → Said
-said (Sheet k) = sheet k
-said (Refused r) = refused (number_of r) (place_of r)
+abbrev pub said : Result ℕ Refusal → Said
+said (Ok k) = sheet k
+said (Err r) = refused (number_of r) (place_of r)
 
 -- a refusal writes nothing; a sheet is laid at the output's front, and what is behind it stays
-abbrev pub laid_by : Checked → List ℕ → List ℕ → Outcome
-laid_by (Bad r) bytes out = outcome (Refused r) out
-laid_by Fine bytes out = outcome (Sheet (length bytes)) (put out 0 bytes)
+abbrev pub laid_by : Result ⊤ Refusal → List ℕ → List ℕ → Outcome
+laid_by (Err r) bytes out = outcome (Err r) out
+laid_by (Ok tt) bytes out = outcome (Ok (length bytes)) (put out 0 bytes)
 
 unfoldable pub written_of : Version → Given → List ℕ → Outcome
 written_of v g out = laid_by (write_check v g (length out)) (sheet_with v (body_bytes g)) out

@@ -14,7 +14,7 @@ ghost use Rattle.sheet_write.specs.Write.{given, joined, head_bytes, row_bytes, 
 
 use big_endian::{write_float, write_number};
 use numbers::bits::bits_of;
-use refusal::{Checked, Refusal, in_size};
+use refusal::{Refusal, in_size};
 use settings::{Settings, allowed};
 use sheet::{claims_fine, pair_above};
 use sheet_front::{Version, front_bytes, write_front};
@@ -22,15 +22,18 @@ use sheet_header::{
     ALPHA_AT, FLAGS_AT, L1_RATIO_AT, MAX_ITER_AT, P_AT, ROWS_AT, TOL_AT, flags_for, row_at,
 };
 
+// The rows of a sheet, as they are given.
 #[derive(Clone, Copy)]
-pub enum Written {
-    // how many bytes it has
-    Sheet(usize),
-    Refused(Refusal),
+struct Rows<'a> {
+    sources: &'a [u16],
+    targets: &'a [u16],
+    x: &'a [f64],
+    y: &'a [f64],
 }
 
-// Writes a sheet of n rows of p features at the front of `out`, which may be longer. Nothing is written before every refusal is tested. Total, for all input:
-// the answer and what `out` then holds are `written_of`.
+// Writes a sheet of n rows of p features at the front of `out`, which may be longer, and answers how many bytes it has. Nothing is written before every
+// refusal is tested. Total, for all input: the answer and what `out` then holds are `written_of`.
+#[tactic(auto, unfolding(crate::specs::Write::written_of, crate::specs::Write::write_check))]
 pub fn write_sheet(
     version: Version,
     n: usize,
@@ -41,23 +44,26 @@ pub fn write_sheet(
     x: &[f64],
     y: &[f64],
     out: &mut [u8],
-) -> Written
+) -> Result<usize, Refusal>
     ensures { outcome result out.new
         ≡ written_of version (given n p st sources.now targets.now x.now y.now) out.old }
 {
     let at = front_bytes(version);
     if !has_room(at, n, p, out.len()) {
-        return Written::Refused(Refusal::Length);
+        return Err(Refusal::Length);
     }
-    let c = given_check(n, p, st, sources, targets, x, y);
-    if let Checked::Bad(k) = c {
-        return Written::Refused(k);
-    }
+    let rows = Rows {
+        sources,
+        targets,
+        x,
+        y,
+    };
+    rows.check(n, p, st)?;
     let k = row_at(p, n);
     write_front(version, k, out);
     write_head(n, p, st, out, at);
-    write_rows(n, p, sources, targets, x, y, out, at + ROWS_AT);
-    Written::Sheet(at + k)
+    rows.write(n, p, out, at + ROWS_AT);
+    Ok(at + k)
 }
 
 // ---- the refusals
@@ -74,97 +80,111 @@ pub fn has_room(at: usize, n: usize, p: usize, room: usize) -> bool
         return true;
     }
     let each = (room - (at + 33)) / n;
-    if each < 12 {
-        return false;
-    }
-    p <= (each - 12) / 8
+    12 <= each && p <= (each - 12) / 8
 }
 
-// The refusals 1, 2, 3, 14 and 15 of what is given.
-fn given_check(
-    n: usize,
-    p: usize,
-    st: Settings,
-    sources: &[u16],
-    targets: &[u16],
-    x: &[f64],
-    y: &[f64],
-) -> Checked
-    ensures { result ≡ given_check (given n p st sources.now targets.now x.now y.now) }
-{
-    if !in_size(n, p) {
-        return Checked::Bad(Refusal::Size);
+impl Rows<'_> {
+    // The refusals 1, 2, 3, 14 and 15 of what is given.
+    #[tactic(auto, unfolding(crate::specs::Write::given_check))]
+    fn check(&self, n: usize, p: usize, st: Settings) -> Result<(), Refusal>
+        ensures { result
+            ≡ given_check (given n p st self.now.sources.now self.now.targets.now self.now.x.now self.now.y.now) }
+    {
+        if !in_size(n, p) {
+            return Err(Refusal::Size);
+        }
+        if !self.lengths_fine(n, p) {
+            return Err(Refusal::Length);
+        }
+        if !allowed(st) {
+            return Err(Refusal::Setting);
+        }
+        self.pairs_check(n)
     }
-    if !lengths_fine(n, p, sources.len(), targets.len(), x.len(), y.len()) {
-        return Checked::Bad(Refusal::Length);
-    }
-    if !allowed(st) {
-        return Checked::Bad(Refusal::Setting);
-    }
-    pairs_check(n, sources, targets, y)
-}
 
-fn lengths_fine(n: usize, p: usize, sl: usize, tl: usize, xl: usize, yl: usize) -> bool
-    requires { InSize n p }
-    ensures { result ≡ (eqb sl n && eqb tl n && eqb yl n && eqb xl (n * p)) }
-{
-    if sl != n {
-        return false;
+    fn lengths_fine(&self, n: usize, p: usize) -> bool
+        requires { InSize n p }
+        ensures { result
+            ≡ (eqb (length self.now.sources.now) n && eqb (length self.now.targets.now) n && eqb (length self.now.y.now) n && eqb (length self.now.x.now) (n * p)) }
+    {
+        self.sources.len() == n
+            && self.targets.len() == n
+            && self.y.len() == n
+            && self.x.len() == n * p
     }
-    if tl != n {
-        return false;
-    }
-    if yl != n {
-        return false;
-    }
-    xl == n * p
-}
 
-fn pairs_check(n: usize, sources: &[u16], targets: &[u16], y: &[f64]) -> Checked
-    requires sources_len { length sources.now ≡ n }
-    requires targets_len { length targets.now ≡ n }
-    requires y_len { length y.now ≡ n }
-    ensures { result ≡ pairs_from (λ i. get_or sources.now i 0) (λ i. get_or targets.now i 0) (λ i. to_bits binary64 (y.now ! i)) n 0 }
-{
-    for i in 0..n {
-        let c = pair_check(sources, targets, y, i);
-        let Checked::Fine = c else {
-            return c;
-        };
+    fn pairs_check(&self, n: usize) -> Result<(), Refusal>
+        requires sources_len { length self.now.sources.now ≡ n }
+        requires targets_len { length self.now.targets.now ≡ n }
+        requires y_len { length self.now.y.now ≡ n }
+        ensures { result ≡ pairs_from (λ i. get_or self.now.sources.now i 0) (λ i. get_or self.now.targets.now i 0) (λ i. to_bits binary64 (self.now.y.now ! i)) n 0 }
+    {
+        for i in 0..n {
+            self.pair_check(i)?;
+        }
+        Ok(())
     }
-    Checked::Fine
-}
 
-// Those of row i alone.
-fn pair_check(sources: &[u16], targets: &[u16], y: &[f64], i: usize) -> Checked
-    requires i_in_bounds { i < length sources.now }
-    requires i_in_bounds_2 { i < length targets.now }
-    requires i_in_bounds_3 { i < length y.now }
-    ensures { result ≡ pairs_from (λ i. get_or sources.now i 0) (λ i. get_or targets.now i 0) (λ i. to_bits binary64 (y.now ! i)) 1 i }
-{
-    if !claims_fine(sources[i] as usize, targets[i] as usize, bits_of(y[i])) {
-        return Checked::Bad(Refusal::Claim(i));
+    // Those of row i alone.
+    #[tactic(auto, unfolding(sheet::specs::Rows::pairs_from))]
+    fn pair_check(&self, i: usize) -> Result<(), Refusal>
+        requires i_in_bounds { i < length self.now.sources.now }
+        requires i_in_bounds_2 { i < length self.now.targets.now }
+        requires i_in_bounds_3 { i < length self.now.y.now }
+        ensures { result ≡ pairs_from (λ i. get_or self.now.sources.now i 0) (λ i. get_or self.now.targets.now i 0) (λ i. to_bits binary64 (self.now.y.now ! i)) 1 i }
+    {
+        if !claims_fine(
+            usize::from(self.sources[i]),
+            usize::from(self.targets[i]),
+            bits_of(self.y[i]),
+        ) {
+            return Err(Refusal::Claim(i));
+        }
+        if !self.pair_rises(i) {
+            return Err(Refusal::Pair(i));
+        }
+        Ok(())
     }
-    if !pair_rises(sources, targets, i) {
-        return Checked::Bad(Refusal::Pair(i));
-    }
-    Checked::Fine
-}
 
-fn pair_rises(sources: &[u16], targets: &[u16], i: usize) -> bool
-    requires i_in_bounds { i < length sources.now }
-    requires i_in_bounds_2 { i < length targets.now }
-    ensures { result ≡ rises (λ i. get_or sources.now i 0) (λ i. get_or targets.now i 0) i }
-{
-    if i == 0 {
-        return true;
+    fn pair_rises(&self, i: usize) -> bool
+        requires i_in_bounds { i < length self.now.sources.now }
+        requires i_in_bounds_2 { i < length self.now.targets.now }
+        ensures { result ≡ rises (λ i. get_or self.now.sources.now i 0) (λ i. get_or self.now.targets.now i 0) i }
+    {
+        if i == 0 {
+            return true;
+        }
+        pair_above(
+            usize::from(self.sources[i - 1]),
+            usize::from(self.targets[i - 1]),
+            usize::from(self.sources[i]),
+            usize::from(self.targets[i]),
+        )
     }
-    pair_above(
-        sources[i - 1] as usize,
-        targets[i - 1] as usize,
-        sources[i] as usize,
-        targets[i] as usize,
-    )
+
+    // One row behind another, from `at` on.
+    fn write(&self, n: usize, p: usize, out: &mut [u8], at: usize)
+        requires sources_len { length self.now.sources.now ≡ n }
+        requires targets_len { length self.now.targets.now ≡ n }
+        requires y_len { length self.now.y.now ≡ n }
+        requires x_len { length self.now.x.now ≡ n * p }
+        requires p_in_bounds { at + n * row-bytes p ≤ length out.old }
+        ensures { out.new
+            ≡ put out.old at (rows_bytes p self.now.sources.now self.now.targets.now self.now.x.now self.now.y.now n) }
+    {
+        for i in 0..n {
+            write_row(
+                p,
+                u64::from(self.sources[i]),
+                u64::from(self.targets[i]),
+                self.x,
+                i * p,
+                self.y[i],
+                out,
+                at + i * (12 + 8 * p),
+            );
+        }
+    }
 }
 
 // ---- the bytes, from `at` on
@@ -180,38 +200,6 @@ fn write_head(n: usize, p: usize, st: Settings, out: &mut [u8], at: usize)
     write_float(st.tol, out, at + TOL_AT);
     write_number(st.max_iter, 4, out, at + MAX_ITER_AT);
     out[at + FLAGS_AT] = flags_for(st);
-}
-
-fn write_rows(
-    n: usize,
-    p: usize,
-    sources: &[u16],
-    targets: &[u16],
-    x: &[f64],
-    y: &[f64],
-    out: &mut [u8],
-    at: usize,
-)
-    requires sources_len { length sources.now ≡ n }
-    requires targets_len { length targets.now ≡ n }
-    requires y_len { length y.now ≡ n }
-    requires x_len { length x.now ≡ n * p }
-    requires p_in_bounds { at + n * row-bytes p ≤ length out.old }
-    ensures { out.new
-        ≡ put out.old at (rows_bytes p sources.now targets.now x.now y.now n) }
-{
-    for i in 0..n {
-        write_row(
-            p,
-            sources[i] as u64,
-            targets[i] as u64,
-            x,
-            i * p,
-            y[i],
-            out,
-            at + i * (12 + 8 * p),
-        );
-    }
 }
 
 fn write_row(

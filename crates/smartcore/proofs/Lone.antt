@@ -1,4 +1,6 @@
 -- The lone solver is solve_mut with the trait's own functions. Assumes nothing.
+use Rattle.refusal.specs.declared.Refusal.{Refusal}
+use Rattle.std.specs.Prelude.{Ok, Result}
 use mathlib.Core.Path.{◌≡◌, refl, ap, ◌∙◌, fun_ext, subst}
 use mathlib.Core.Bool.{Bool, true, false, not, cond}
 use mathlib.Core.List.{List}
@@ -14,19 +16,17 @@ use Rattle.arrays.specs.Sums.{◌!◌, plus0, norm_two_of}
 use Rattle.arrays.specs.Vectors.{fill_of}
 use Rattle.bg_solver.specs.Solver.{System, Work, begun, turned, error_of}
 use Rattle.lone_rounds.specs.Lone.{lone_system, diagonal_of, over_of, divided_of}
-use Rattle.lone_rounds.specs.Loop.{Result, found, loop as loop_l, solved}
-use Rattle.lone_solver.specs.declared.Answer.{Answer}
-use Rattle.lone_solver.specs.declared.Answer.TheVariants.{Solved}
+use Rattle.lone_rounds.specs.Loop.{Result as Ended, found, loop as loop_l, solved}
 use Rattle.lone_solver.proofs.LoneSolver.{Solves, FirstRefusal, Accepted, every-input, solved-otherwise}
 use Rattle.smartcore.specs.BgSolver.{Solver, bg_solver, Solution, ok, err, loop, solve_mut}
 
 -- solve_mut's Ok with this error and this solution, the rounds made left aside
-abbrev pub Found : Result → Solution → Type 0
+abbrev pub Found : Ended → Solution → Type 0
 Found o (ok error x made) = o ≡ found error x
 Found o (err k) = ⊥
 
 -- two choices by one test
-choose : (b : Bool) (o₁ o₂ : Result) (s₁ s₂ : Solution) → Found o₁ s₁ → Found o₂ s₂ → Found (elim b [
+choose : (b : Bool) (o₁ o₂ : Ended) (s₁ s₂ : Solution) → Found o₁ s₁ → Found o₂ s₂ → Found (elim b [
   | true ↦ o₁
   | false ↦ o₂
 ]) (elim b [
@@ -65,7 +65,7 @@ self-is n a =
     (fun_ext (λ b. tab-ext _ _ n (λ i l. turned_round (eq (d ! i) plus0) (b ! i) (b ! i ⊘ d ! i))))
 
 -- neither Err is returned
-past : (o : Result) (s : Solution) (u v : Bool) → u ≡ false → v ≡ false → Found o s → Found o (elim u [
+past : (o : Ended) (s : Solution) (u v : Bool) → u ≡ false → v ≡ false → Found o s → Found o (elim u [
   | true ↦ err 8
   | false ↦ elim v [
     | true ↦ err 10
@@ -93,26 +93,26 @@ lone-as-the-rust n a b x tol limit t l =
 
 -- ---- on the contract of `solve`
 
-abbrev error_in : Result → Float
+abbrev error_in : Ended → Float
 error_in (found e x) = e
 
-abbrev solution_in : Result → List Float
+abbrev solution_in : Ended → List Float
 solution_in (found e x) = x
 
 -- the call answers solve_mut's error and leaves its solution
-abbrev pub SolvedAs : Answer → List Float → Solution → Type 0
-SolvedAs r x (ok error v made) = (r ≡ Solved error) × (x ≡ v)
+abbrev pub SolvedAs : Result Float Refusal → List Float → Solution → Type 0
+SolvedAs r x (ok error v made) = (r ≡ Ok error) × (x ≡ v)
 SolvedAs r x (err k) = ⊥
 
 -- WHERE NO REFUSAL HOLDS, `solve` gives what solve_mut gives
-pub solves-as-the-rust : (n : ℕ) (a b x : List Float) (tol : Float) (limit : ℕ) (s : List Float) {r : Answer} {x' s' : List Float}
+pub solves-as-the-rust : (n : ℕ) (a b x : List Float) (tol : Float) (limit : ℕ) (s : List Float) {r : Result Float Refusal} {x' s' : List Float}
     → Solves n a b x tol limit s r x' s' → ((k i : ℕ) → FirstRefusal n a b x tol limit s k i → ⊥) → SolvedAs r x' (solve_mut (bg_solver n a) n b x tol limit)
 solves-as-the-rust n a b x tol limit s {r} {x'} c none = go (every-input n a b x tol limit s) where
   told : (o : Solution) → Found (solved n a b x tol limit) o → SolvedAs r x' o
   told (ok error v made) h =
       let f = solved-otherwise n a b x tol limit s c none in
       let e = f.2 ∙ h in
-      (f.1 ∙ ap Solved (ap error_in e), ap solution_in e)
+      (f.1 ∙ ap Ok (ap error_in e), ap solution_in e)
   told (err k) h = h
 
   go : Accepted n a b x tol limit s ⊎ ((k : ℕ) × (i : ℕ) × FirstRefusal n a b x tol limit s k i) → SolvedAs r x' (solve_mut (bg_solver n a) n b x tol limit)

@@ -3,8 +3,7 @@
 
 ghost use Rattle.std.specs.Prelude.{◌≡◌, ◌≤◌};
 ghost use Rattle.pause.specs.Paused.{opening, solving, searching, step};
-ghost use Rattle.design_products.specs.Mode.{Held};
-ghost use Rattle.layout.specs.Slots.{Room, vars, rest};
+ghost use Rattle.layout.specs.Slots.{HasRoom, vars, rest};
 ghost use Rattle.duality.specs.Gap.{Known};
 ghost use Rattle.lasso_optimizer.specs.Data.{held};
 ghost use Rattle.lasso_optimizer.specs.Fit.{parts};
@@ -13,11 +12,10 @@ ghost use Rattle.records.specs.Record.{counts_of, OpeningIn, SolvingIn, Searchin
 ghost use Rattle.stages.specs.Stage.{turned_in, tried_in, search_from, Did};
 
 use lasso_optimizer::{Opened, Scalars, Tried, Turned};
-use layout::{Places, Sizes};
+use layout::fit::Fit;
 use opening::open;
 use records::{Counts, Paused, Rounds, SolverRounds, Stage, Trials};
 use refusal::{Failure, Way};
-use settings::Terms;
 use solver_round::{aim, turn};
 use trial::attempt;
 
@@ -56,35 +54,19 @@ fn scalars_of(o: Tried) -> Scalars
 
 // Opens round r, which is counted however it ends: the solver is ready for its first round, or the fit has converged or failed.
 // Where `known`, newz holds the residuals already.
-pub fn opening_step(
-    m: &[f64],
-    sh: Sizes,
-    tm: Terms,
-    tol: f64,
-    limit: u64,
-    s: &mut [f64],
-    l: Places,
-    r: u64,
-    c: Counts,
-    a: Scalars,
-    known: bool,
-) -> Stepped
-    requires held { Held sh l m.now s.old }
-    requires known { Known sh tm m.now known (vars sh s.old) }
-    requires opening_in { OpeningIn limit r (counts_of c) }
-    requires limit_bound { limit ≤ 1000 }
-    ensures { Did sh (rest sh s.old) (step (parts sh tm tol m.now) limit
-        (opening r (counts_of c) (held a (vars sh s.old)))) result s.new }
+pub fn opening_step(fit: &Fit, s: &mut [f64], r: u64, c: Counts, a: Scalars, known: bool) -> Stepped
+    requires room { HasRoom fit.now.sizes s.old }
+    requires known { let f = fit.now in Known f.sizes f.terms f.matrix.now known (vars f.sizes s.old) }
+    requires opening_in { OpeningIn fit.now.limit r (counts_of c) }
+    ensures { let f = fit.now in
+        Did f.sizes (rest f.sizes s.old) (step (parts f.sizes f.terms f.tol f.matrix.now) f.limit
+        (opening r (counts_of c) (held a (vars f.sizes s.old)))) result s.new }
 {
-    let n = c.rounds;
-    let b = c.solver;
-    let t = c.trials;
     let d = Counts {
-        rounds: Rounds(n.0 + 1),
-        solver: b,
-        trials: t,
+        rounds: Rounds(c.rounds.0 + 1),
+        ..c
     };
-    match open(m, sh, tm, tol, s, l, r, a, known) {
+    match open(fit, s, r, a, known) {
         Opened::Ready(w) => Stepped::Going(Paused {
             stage: Stage::Solving(1),
             round: r,
@@ -97,19 +79,12 @@ pub fn opening_step(
 }
 
 // The solver's last round is behind: the search begins.
-fn search_begins(
-    s: &[f64],
-    sh: Sizes,
-    tm: Terms,
-    l: Places,
-    r: u64,
-    d: Counts,
-    w: Scalars,
-) -> Stepped
-    requires { Room sh l s.now }
-    ensures { result ≡ search_from r (counts_of d) (aim_by sh tm w (vars sh s.now)) }
+fn search_begins(fit: &Fit, s: &[f64], r: u64, d: Counts, w: Scalars) -> Stepped
+    requires { HasRoom fit.now.sizes s.now }
+    ensures { let f = fit.now in
+        result ≡ search_from r (counts_of d) (aim_by f.sizes f.terms w (vars f.sizes s.now)) }
 {
-    let g = aim(s, sh, tm, l, w);
+    let g = aim(fit, s, w);
     Stepped::Going(Paused {
         stage: Stage::Searching(0),
         round: r,
@@ -119,37 +94,21 @@ fn search_begins(
 }
 
 // Makes the solver's round k. Where it stops, or is round 4,999, the search begins in the same step.
-pub fn solving_step(
-    m: &[f64],
-    sh: Sizes,
-    tm: Terms,
-    tol: f64,
-    limit: u64,
-    s: &mut [f64],
-    l: Places,
-    r: u64,
-    k: u64,
-    c: Counts,
-    a: Scalars,
-) -> Stepped
-    requires held { Held sh l m.now s.old }
-    requires solving_in { SolvingIn limit r k (counts_of c) }
-    requires limit_bound { limit ≤ 1000 }
-    ensures { Did sh (rest sh s.old) (step (parts sh tm tol m.now) limit
-        (solving r k (counts_of c) (held a (vars sh s.old)))) result s.new }
+pub fn solving_step(fit: &Fit, s: &mut [f64], r: u64, k: u64, c: Counts, a: Scalars) -> Stepped
+    requires room { HasRoom fit.now.sizes s.old }
+    requires solving_in { SolvingIn fit.now.limit r k (counts_of c) }
+    ensures { let f = fit.now in
+        Did f.sizes (rest f.sizes s.old) (step (parts f.sizes f.terms f.tol f.matrix.now) f.limit
+        (solving r k (counts_of c) (held a (vars f.sizes s.old)))) result s.new }
 {
-    let n = c.rounds;
-    let b = c.solver;
-    let t = c.trials;
     let d = Counts {
-        rounds: n,
-        solver: SolverRounds(b.0 + 1),
-        trials: t,
+        solver: SolverRounds(c.solver.0 + 1),
+        ..c
     };
-    let o = turn(s, sh, l, k, a);
+    let o = turn(fit, s, k, a);
     let Turned::More(next) = o else {
         let last = scalars_in(o);
-        return search_begins(s, sh, tm, l, r, d, last);
+        return search_begins(fit, s, r, d, last);
     };
     if k < 4999 {
         return Stepped::Going(Paused {
@@ -159,38 +118,22 @@ pub fn solving_step(
             scalars: next,
         });
     }
-    search_begins(s, sh, tm, l, r, d, next)
+    search_begins(fit, s, r, d, next)
 }
 
 // Makes a trial after j others. One that is taken leads to the next round or the limit; one that is not halves the step, and the hundredth fails.
-pub fn searching_step(
-    m: &[f64],
-    sh: Sizes,
-    tm: Terms,
-    tol: f64,
-    limit: u64,
-    s: &mut [f64],
-    l: Places,
-    r: u64,
-    j: u64,
-    c: Counts,
-    a: Scalars,
-) -> Stepped
-    requires held { Held sh l m.now s.old }
-    requires searching_in { SearchingIn limit r j (counts_of c) }
-    requires limit_bound { limit ≤ 1000 }
-    ensures { Did sh (rest sh s.old) (step (parts sh tm tol m.now) limit
-        (searching r j (counts_of c) (held a (vars sh s.old)))) result s.new }
+pub fn searching_step(fit: &Fit, s: &mut [f64], r: u64, j: u64, c: Counts, a: Scalars) -> Stepped
+    requires room { HasRoom fit.now.sizes s.old }
+    requires searching_in { SearchingIn fit.now.limit r j (counts_of c) }
+    ensures { let f = fit.now in
+        Did f.sizes (rest f.sizes s.old) (step (parts f.sizes f.terms f.tol f.matrix.now) f.limit
+        (searching r j (counts_of c) (held a (vars f.sizes s.old)))) result s.new }
 {
-    let n = c.rounds;
-    let b = c.solver;
-    let t = c.trials;
     let d = Counts {
-        rounds: n,
-        solver: b,
-        trials: Trials(t.0 + 1),
+        trials: Trials(c.trials.0 + 1),
+        ..c
     };
-    let o = attempt(m, sh, tm, s, l, a);
+    let o = attempt(fit, s, a);
     let Tried::Accept(next) = o else {
         if j + 1 < 100 {
             let halved = scalars_of(o);
@@ -203,7 +146,7 @@ pub fn searching_step(
         }
         return Stepped::Over(How::Failed(Failure::Search), d);
     };
-    if r + 1 < limit {
+    if r + 1 < fit.limit {
         return Stepped::Going(Paused {
             stage: Stage::Opening,
             round: r + 1,

@@ -1,51 +1,62 @@
 // Bytes in words: 8 to a word, the first of them highest.
-ghost use Rattle.std.specs.Prelude.{◌*◌, ◌<◌, ◌≤◌, length};
+ghost use Rattle.std.specs.Prelude.{◌≡◌, ◌*◌, ◌≤◌, length, IfOk};
+
+use super::{Damaged, length_in};
 
 pub fn words_for(n: usize) -> usize
     requires { n ≤ 65536 }
     ensures { (n ≤ 8 * result) × (result ≤ 8192) }
 {
-    (n + 7) / 8
+    n.div_ceil(8)
 }
 
-pub fn unpack(w: &[u64], out: &mut [u8])
-    requires { length out.old ≤ 8 * length w.now }
-{
-    for i in 0..out.len() {
-        out[i] = byte_at(w, i);
+// The first `len` bytes of the words.
+#[derive(Clone, Copy)]
+pub struct Packed<'a> {
+    words: &'a [u64],
+    pub len: usize,
+    ghost in_range: { len ≤ 8 * length words.now },
+}
+
+impl<'a> Packed<'a> {
+    pub fn new(words: &'a [u64], len: usize) -> Packed<'a>
+        requires { len ≤ 8 * length words.now }
+        ensures { result.len ≡ len }
+    {
+        Packed { words, len }
     }
-}
 
-// Are these bytes those in front?
-pub fn spelt(s: &[u8], w: &[u64]) -> bool
-    requires { length s.now ≤ 8 * length w.now }
-{
-    for i in 0..s.len() {
-        if s[i] != byte_at(w, i) {
-            return false;
+    // From the front of w: the number of bytes, which stands at the place `at` of its record, and the words that they stand in. Then what is left of w.
+    pub fn split(w: &'a [u64], most: usize, at: u64) -> Result<(Packed<'a>, &'a [u64]), Damaged>
+        requires { most ≤ 65536 }
+        ensures { IfOk result (λ r. r.0.len ≤ most) }
+    {
+        let Some((n, w)) = w.split_first() else {
+            return Err(Damaged(0));
+        };
+        let len = length_in(*n, most, at)?;
+        let Some((words, rest)) = w.split_at_checked(words_for(len)) else {
+            return Err(Damaged(0));
+        };
+        Ok((Packed { words, len }, rest))
+    }
+
+    // As many of them as `out` holds.
+    pub fn unpack(self, out: &mut [u8]) {
+        let bytes = self.words.iter().flat_map(|word| word.to_be_bytes());
+        for (to, byte) in out.iter_mut().zip(bytes) {
+            *to = byte;
         }
     }
-    true
-}
 
-fn byte_at(w: &[u64], i: usize) -> u8
-    requires { i < 8 * length w.now }
-{
-    (w[i / 8] / unit(i % 8) % 256) as u8
-}
+    // Are these the same bytes?
+    pub fn is(self, s: &[u8]) -> bool {
+        let bytes = self.words.iter().flat_map(|word| word.to_be_bytes());
+        s.iter().copied().eq(bytes.take(self.len))
+    }
 
-// What a byte of a word counts.
-fn unit(k: usize) -> u64
-    ensures { 1 ≤ result }
-{
-    match k {
-        0 => 0x0100_0000_0000_0000,
-        1 => 0x0001_0000_0000_0000,
-        2 => 0x0000_0100_0000_0000,
-        3 => 0x0000_0001_0000_0000,
-        4 => 0x0100_0000,
-        5 => 0x0001_0000,
-        6 => 0x0100,
-        _ => 1,
+    // Do they stand in front?
+    pub fn begins(self, s: &[u8]) -> bool {
+        s.get(..self.len).is_some_and(|front| self.is(front))
     }
 }

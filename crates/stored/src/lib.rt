@@ -9,86 +9,77 @@ pub mod room;
 pub mod tally;
 mod words;
 
-ghost use Rattle.std.specs.Prelude.{◌≡◌, ◌≤◌, min, length, IfOk, IfErr};
+ghost use Rattle.std.specs.Prelude.{◌≡◌, ◌≤◌, length, IfOk, IfErr};
 
 use console::read_full;
 use std::io;
 use std::io::Read;
-use words::{Parsed, Word, read_word, read_words};
+use words::{read_word, read_words};
 
-#[derive(Clone, Copy)]
-pub struct Record {
-    // how many words it has; they stand at the front of the buffer
-    pub words: usize,
-    pub whole: bool,
-    // where it is not whole, the place of the first word that is bad, or missing; word 0 is the length, which is bad too where the buffer is shorter
-    pub bad: u64,
+// Where a record is not whole: the place of the first word that is bad, or missing; word 0 is the length, which is bad too where the buffer is shorter.
+#[derive(Clone, Copy, PartialEq, Eq, Debug)]
+pub struct Damaged(pub u64);
+
+// A word of a record as a length of at most `most`; it stands at the place `at`.
+pub fn length_in(word: u64, most: usize, at: u64) -> Result<usize, Damaged>
+    ensures { IfOk result (λ n. n ≤ most) }
+{
+    let n = word as usize;
+    if n <= most { Ok(n) } else { Err(Damaged(at)) }
 }
 
-fn next_word<R: Read>(input: &mut R) -> io::Result<Word> {
+// From the front of w: a number, which stands at the place `at` of its record, and as many words. Then what is left of w.
+pub fn counted(w: &[u64], most: usize, at: u64) -> Result<(&[u64], &[u64]), Damaged>
+    ensures { IfOk result (λ r. length r.0.now ≤ most) }
+{
+    let Some((n, w)) = w.split_first() else {
+        return Err(Damaged(0));
+    };
+    let n = length_in(*n, most, at)?;
+    w.split_at_checked(n).ok_or(Damaged(0))
+}
+
+fn next_word<R: Read>(input: &mut R) -> io::Result<Option<u64>> {
     let mut bytes = [0u8; 17];
     let n = read_full(input, &mut bytes)?;
     Ok(read_word(&bytes[..n], 0))
 }
 
-// An error is a read's own, and leaves `out` as long as it was.
-pub fn next_record<R: Read>(input: &mut R, out: &mut [u64]) -> io::Result<Record>
-    ensures ok { IfOk result (λ r. r.words ≤ length out.new) }
+// How many words the record has, which stand at the front of the buffer, or where it is not whole. An error is a read's own, and leaves `out` as long as it was.
+pub fn next_record<R: Read>(input: &mut R, out: &mut [u64]) -> io::Result<Result<usize, Damaged>>
+    ensures ok { IfOk result (λ r. IfOk r (λ words. words ≤ length out.new)) }
     ensures err { IfErr result (λ e. length out.new ≡ length out.old) }
 {
-    let Word::Number(n) = next_word(input)? else {
-        return Ok(damaged(0));
+    let Some(n) = next_word(input)? else {
+        return Ok(Err(Damaged(0)));
     };
     let n = n as usize;
     if n > out.len() {
-        return Ok(damaged(0));
+        return Ok(Err(Damaged(0)));
     }
-    match fill(input, out, n)? {
-        Parsed::Whole => Ok(Record {
-            words: n,
-            whole: true,
-            bad: 0,
-        }),
-        Parsed::BadAt(i) => Ok(damaged(std::num::wrapping_add_u64(i as u64, 1))),
-    }
+    let filled = fill(input, &mut out[..n])?;
+    Ok(match filled {
+        Ok(()) => Ok(n),
+        Err(i) => Err(Damaged((i as u64).wrapping_add(1))),
+    })
 }
 
-fn damaged(bad: u64) -> Record
-    ensures { result.words ≡ 0 }
-{
-    Record {
-        words: 0,
-        whole: false,
-        bad,
-    }
-}
-
-// The next n words, as many at a time as `some` has room for. A place is below n, so that no sum here and above wraps.
-fn fill<R: Read>(input: &mut R, out: &mut [u64], n: usize) -> io::Result<Parsed>
-    requires { n ≤ length out.old }
-{
-    let mut i = 0usize;
-    while i < n {
-        let k = at_most(n - i, 240);
-        if let Parsed::BadAt(j) = some(input, &mut out[i..], k)? {
-            return Ok(Parsed::BadAt(std::num::wrapping_add_usize(i, j)));
+// The next words, as many at a time as `some` has room for; or the place of the first that is bad. It is below the length, so that no sum here and above wraps.
+fn fill<R: Read>(input: &mut R, out: &mut [u64]) -> io::Result<Result<(), usize>> {
+    let mut at = 0usize;
+    for part in out.chunks_mut(240) {
+        if let Err(i) = some(input, part)? {
+            return Ok(Err(at.wrapping_add(i)));
         }
-        i += k;
+        at = at.wrapping_add(part.len());
     }
-    Ok(Parsed::Whole)
+    Ok(Ok(()))
 }
 
-fn at_most(a: usize, b: usize) -> usize
-    ensures { result ≡ min a b }
-{
-    if a < b { a } else { b }
-}
-
-fn some<R: Read>(input: &mut R, out: &mut [u64], k: usize) -> io::Result<Parsed>
-    requires k_in_bounds { k ≤ length out.old }
-    requires k_bound { k ≤ 240 }
+fn some<R: Read>(input: &mut R, out: &mut [u64]) -> io::Result<Result<(), usize>>
+    requires { length out.old ≤ 240 }
 {
     let mut bytes = [0u8; 4096];
-    let n = read_full(input, &mut bytes[..17 * k])?;
-    Ok(read_words(&bytes[..n], out, k))
+    let n = read_full(input, &mut bytes[..17 * out.len()])?;
+    Ok(read_words(&bytes[..n], out))
 }

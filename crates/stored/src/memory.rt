@@ -5,8 +5,8 @@ use numbers::bits::{bits_of, of_bits};
 // A word to fill lent words with, which no record and no answer has.
 pub const MARK: u64 = 0x1234_5678_9abc_def0;
 
-// The value's bits, the first place that has it, how many have it, and how far apart these are.
-#[derive(Clone, Copy)]
+// The value's bits, the first place that has it, how many have it, and how far apart these are; no place by default.
+#[derive(Clone, Copy, Default)]
 pub struct Spoilt {
     pub value: u64,
     pub from: usize,
@@ -14,73 +14,66 @@ pub struct Spoilt {
     pub apart: usize,
 }
 
-// No place has a value.
-pub fn unspoilt() -> Spoilt {
-    Spoilt {
-        value: 0,
-        from: 0,
-        times: 0,
-        apart: 0,
+impl Spoilt {
+    fn has(self, i: usize) -> bool {
+        self.from <= i
+            && self.apart > 0
+            && (i - self.from) % self.apart == 0
+            && (i - self.from) / self.apart < self.times
     }
 }
 
-// The slice's places are those from `first` on. They stay far below 2^64, so that no sum here wraps.
-pub fn fill(s: &mut [f64], first: usize, q: Spoilt) {
-    for i in 0..s.len() {
-        s[i] = number_at(std::num::wrapping_add_usize(first, i), q);
-    }
+// The marks of a slice, whose places are those from `first` on. They stay far below 2^64, so that no sum here wraps.
+#[derive(Clone, Copy, Default)]
+pub struct Marks {
+    pub first: usize,
+    pub spoilt: Spoilt,
 }
 
-pub fn kept(s: &[f64], first: usize, q: Spoilt) -> bool {
-    written(s, first, q) == 0
-}
-
-// The n words in front are +0, and those behind them as they were.
-pub fn cleared(s: &[f64], n: usize, first: usize, q: Spoilt) -> bool {
-    if s.len() < n {
-        return false;
-    }
-    if !all(s, 0, n, 0) {
-        return false;
-    }
-    kept(&s[n..], std::num::wrapping_add_usize(first, n), q)
-}
-
-// One more than the last index whose number is another than `fill` left; 0 where there is none.
-pub fn written(s: &[f64], first: usize, q: Spoilt) -> usize {
-    let mut k = s.len();
-    while k > 0 {
-        k -= 1;
-        if bits_of(s[k]) != word_at(std::num::wrapping_add_usize(first, k), q) {
-            return k + 1;
+impl Marks {
+    // The marks behind the n in front.
+    pub fn behind(self, n: usize) -> Marks {
+        Marks {
+            first: self.first.wrapping_add(n),
+            ..self
         }
     }
-    0
-}
 
-pub fn number_at(i: usize, q: Spoilt) -> f64 {
-    of_bits(word_at(i, q))
-}
+    pub fn fill(self, s: &mut [f64]) {
+        for (i, x) in s.iter_mut().enumerate() {
+            *x = self.number_at(i);
+        }
+    }
 
-// A mark is 2 + i / 32768: a column of them is not constant.
-fn word_at(i: usize, q: Spoilt) -> u64 {
-    if has_value(i, q) {
-        return q.value;
+    pub fn kept(self, s: &[f64]) -> bool {
+        self.written(s) == 0
     }
-    0x4000_0000_0000_0000 + (i % 65536) as u64 * 0x10_0000_0000
-}
 
-fn has_value(i: usize, q: Spoilt) -> bool {
-    let from = q.from;
-    let apart = q.apart;
-    if i < from {
-        return false;
+    // The n words in front are +0, and those behind them as they were.
+    pub fn cleared(self, s: &[f64], n: usize) -> bool {
+        s.split_at_checked(n)
+            .is_some_and(|(front, rest)| all(front, 0) && self.behind(n).kept(rest))
     }
-    if apart < 1 {
-        return false;
+
+    // One more than the last index whose number is another than `fill` left; 0 where there is none.
+    pub fn written(self, s: &[f64]) -> usize {
+        s.iter()
+            .enumerate()
+            .rposition(|(i, x)| bits_of(*x) != self.bits_at(i))
+            .map_or(0, |i| i + 1)
     }
-    if (i - from) % apart != 0 {
-        return false;
+
+    pub fn number_at(self, i: usize) -> f64 {
+        of_bits(self.bits_at(i))
     }
-    (i - from) / apart < q.times
+
+    // A mark is 2 + i / 32768: a column of them is not constant.
+    fn bits_at(self, i: usize) -> u64 {
+        let i = self.first.wrapping_add(i);
+        if self.spoilt.has(i) {
+            self.spoilt.value
+        } else {
+            0x4000_0000_0000_0000 + (i % 65536) as u64 * 0x10_0000_0000
+        }
+    }
 }

@@ -2,8 +2,7 @@
 #![tactic(auto)]
 
 ghost use Rattle.std.specs.Prelude.{◌≡◌};
-ghost use Rattle.design_products.specs.Mode.{Held};
-ghost use Rattle.layout.specs.Slots.{Room, vars, rest, Makes};
+ghost use Rattle.layout.specs.Slots.{HasRoom, vars, rest, Makes};
 ghost use Rattle.lasso_optimizer.specs.Data.{held};
 ghost use Rattle.lasso_optimizer.specs.Trial.{moved_store, newz_store, newphi_of, taken_store, halved, decide_by, tries};
 ghost use Rattle.lasso_optimizer.specs.Fit.{DidTry};
@@ -12,48 +11,51 @@ use arrays::sums::{dot, sum};
 use arrays::vectors::{add_scaled, copy, sub};
 use design_products::matvec;
 use lasso_optimizer::{Scalars, Tried};
-use layout::{Places, Sizes};
+use layout::fit::Fit;
 use line_search::{accepts, faces, largest, phi, sumlogneg};
-use settings::Terms;
 
 // neww, newu and newf, a step along the direction.
-fn move_on(s: &mut [f64], sh: Sizes, l: Places, step: f64)
-    requires { Room sh l s.old }
-    ensures { Makes sh (moved_store sh step) s.old s.new }
+fn move_on(fit: &Fit, s: &mut [f64], step: f64)
+    requires { HasRoom fit.now.sizes s.old }
+    ensures { Makes fit.now.sizes (moved_store fit.now.sizes step) s.old s.new }
 {
-    add_scaled(s, l.neww, l.w, step, l.dxu, sh.p);
-    add_scaled(s, l.newu, l.u, step, l.dxu + sh.p, sh.p);
-    faces(s, l.newf, l.neww, l.newu, sh.p);
+    let l = fit.places;
+    add_scaled(s, l.neww, l.w, step, l.dxu, fit.sizes.p);
+    add_scaled(s, l.newu, l.u, step, l.dxu + fit.sizes.p, fit.sizes.p);
+    faces(s, l.newf, l.neww, l.newu, fit.sizes.p);
 }
 
 // newz: the design times the new weights, less the targets.
-fn residuals(m: &[f64], sh: Sizes, tm: Terms, s: &mut [f64], l: Places)
-    requires { Held sh l m.now s.old }
-    ensures { Makes sh (newz_store sh tm m.now) s.old s.new }
+fn residuals(fit: &Fit, s: &mut [f64])
+    requires { HasRoom fit.now.sizes s.old }
+    ensures { let f = fit.now in Makes f.sizes (newz_store f.sizes f.terms f.matrix.now) s.old s.new }
 {
-    matvec(m, sh, tm, s, l, l.neww, l.newz);
-    sub(s, l.newz, l.newz, l.y, sh.k);
+    let l = fit.places;
+    matvec(fit, s, l.neww, l.newz);
+    sub(s, l.newz, l.newz, l.y, fit.sizes.k);
 }
 
 // phi at the new point.
-fn newphi(s: &[f64], sh: Sizes, tm: Terms, l: Places, t: f64) -> f64
-    requires { Room sh l s.now }
-    ensures { result ≡ newphi_of sh tm t (vars sh s.now) }
+fn newphi(fit: &Fit, s: &[f64], t: f64) -> f64
+    requires { HasRoom fit.now.sizes s.now }
+    ensures { let f = fit.now in result ≡ newphi_of f.sizes f.terms t (vars f.sizes s.now) }
 {
-    let zz = dot(s, l.newz, s, l.newz, sh.k);
-    let sumu = sum(s, l.newu, sh.p);
-    let logs = sumlogneg(s, l.newf, 2 * sh.p);
-    phi(tm.lambda, t, zz, sumu, logs)
+    let l = fit.places;
+    let zz = dot(s, l.newz, s, l.newz, fit.sizes.k);
+    let sumu = sum(s, l.newu, fit.sizes.p);
+    let logs = sumlogneg(s, l.newf, 2 * fit.sizes.p);
+    phi(fit.terms.lambda, t, zz, sumu, logs)
 }
 
 // The new point becomes the current one: w, u and f.
-fn take(s: &mut [f64], sh: Sizes, l: Places)
-    requires { Room sh l s.old }
-    ensures { Makes sh taken_store s.old s.new }
+fn take(fit: &Fit, s: &mut [f64])
+    requires { HasRoom fit.now.sizes s.old }
+    ensures { Makes fit.now.sizes taken_store s.old s.new }
 {
-    copy(s, l.w, l.neww, sh.p);
-    copy(s, l.u, l.newu, sh.p);
-    copy(s, l.f, l.newf, 2 * sh.p);
+    let l = fit.places;
+    copy(s, l.w, l.neww, fit.sizes.p);
+    copy(s, l.u, l.newu, fit.sizes.p);
+    copy(s, l.f, l.newf, 2 * fit.sizes.p);
 }
 
 fn half_step(a: Scalars) -> Scalars
@@ -63,29 +65,33 @@ fn half_step(a: Scalars) -> Scalars
 }
 
 // A new point inside its bounds: it is taken where phi decreases enough, else the step is halved.
-fn decide(m: &[f64], sh: Sizes, tm: Terms, s: &mut [f64], l: Places, a: Scalars) -> Tried
-    requires { Held sh l m.now s.old }
-    ensures { DidTry sh (rest sh s.old) (decide_by a (newphi_of sh tm a.t (newz_store sh tm m.now (vars sh s.old)))
-        (newz_store sh tm m.now (vars sh s.old))) result s.new }
+fn decide(fit: &Fit, s: &mut [f64], a: Scalars) -> Tried
+    requires { HasRoom fit.now.sizes s.old }
+    ensures { let f = fit.now in
+        DidTry f.sizes (rest f.sizes s.old) (decide_by a
+        (newphi_of f.sizes f.terms a.t (newz_store f.sizes f.terms f.matrix.now (vars f.sizes s.old)))
+        (newz_store f.sizes f.terms f.matrix.now (vars f.sizes s.old))) result s.new }
 {
-    residuals(m, sh, tm, s, l);
-    let new = newphi(s, sh, tm, l, a.t);
+    residuals(fit, s);
+    let new = newphi(fit, s, a.t);
     if accepts(new, a.phi, a.s, a.gdx) {
-        take(s, sh, l);
+        take(fit, s);
         return Tried::Accept(a);
     }
     Tried::Halve(half_step(a))
 }
 
 // One trial, with the step that the scalars have. A new point that is not inside its bounds is not weighed: the step is halved.
-pub fn attempt(m: &[f64], sh: Sizes, tm: Terms, s: &mut [f64], l: Places, a: Scalars) -> Tried
-    requires { Held sh l m.now s.old }
-    ensures { DidTry sh (rest sh s.old) (tries sh tm m.now (held a (vars sh s.old))) result s.new }
+pub fn attempt(fit: &Fit, s: &mut [f64], a: Scalars) -> Tried
+    requires { HasRoom fit.now.sizes s.old }
+    ensures { let f = fit.now in DidTry f.sizes (rest f.sizes s.old)
+        (tries f.sizes f.terms f.matrix.now (held a (vars f.sizes s.old))) result s.new }
 {
-    move_on(s, sh, l, a.s);
-    let most = largest(s, l.newf, 2 * sh.p);
+    let l = fit.places;
+    move_on(fit, s, a.s);
+    let most = largest(s, l.newf, 2 * fit.sizes.p);
     if most < 0.0 {
-        return decide(m, sh, tm, s, l, a);
+        return decide(fit, s, a);
     }
     Tried::Halve(half_step(a))
 }

@@ -1,5 +1,6 @@
 -- A fit in one call: what it answers and leaves, for every input. Definitions only.
-use Rattle.std.specs.Prelude.{◌≡◌, List, ℕ, length, Float}
+use Rattle.whole_fit.specs.declared.Fitted.{Fitted}
+use Rattle.std.specs.Prelude.{◌≡◌, List, ℕ, length, Float, Err, Ok, Result}
 use Rattle.refusal.specs.declared.Refusal.{Refusal}
 use Rattle.refusal.specs.Refusal.{number_of, place_of}
 use Rattle.settings.specs.declared.Settings.{Settings}
@@ -13,14 +14,12 @@ use Rattle.elastic_net.specs.declared.Resumed.{Resumed}
 use Rattle.elastic_net.specs.ElasticNet.{Said, pending, refused, done_as, said, Outcome, by_check, StartOutcome, by_start_check, start_of}
 use Rattle.smartcore.specs.ElasticNet.{fit}
 use Rattle.promises.specs.Outcome.{outcome_of}
-use Rattle.whole_fit.specs.declared.Final.{Final}
-use Rattle.whole_fit.specs.declared.Final.TheVariants.{Done, Refused}
 use Rattle.whole_fit.specs.declared.Whole.{Whole}
 
 -- what a whole fit answers, in 01's words
-abbrev pub said_final : Final → Said
-said_final (Done b w c) = done_as w b c
-said_final (Refused r) = refused (number_of r) (place_of r)
+abbrev pub said_final : Result Fitted Refusal → Said
+said_final (Ok f) = done_as f.way f.intercept f.counts
+said_final (Err r) = refused (number_of r) (place_of r)
 
 abbrev pub whole_outcome : Whole → List Float → List Float → Outcome
 whole_outcome r w s = record { answer = said_final r.answer; paused = r.paused; weights = w; scratch = s }
@@ -46,7 +45,7 @@ start_whole n p x y st s wl = by_start_check (limits_of n p (length x) (length y
 
 -- a fit that was not begun: an ended record with counts 0
 abbrev pub refused_as : Refusal → Whole
-refused_as r = record { answer = Refused r; paused = ended_of (counts_back none) }
+refused_as r = record { answer = Err r; paused = ended_of (counts_back none) }
 
 abbrev pub HasEnded : Resumed → Type 0
 HasEnded r = said r.answer ≡ pending → ⊥

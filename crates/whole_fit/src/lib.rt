@@ -6,22 +6,23 @@ ghost use Rattle.elastic_net.specs.ElasticNet.{start_outcome};
 ghost use Rattle.whole_fit.specs.Fit.{whole_outcome, whole_of, start_whole, refused_as, Settles, HasEnded};
 
 use checks::limits;
-use elastic_net::{Answer, Resumed, Started, resume, start};
+use elastic_net::{Answer, Resumed, resume, start};
 use records::{Counts, Paused, ended, no_counts};
-use refusal::{Checked, Refusal, Way};
+use refusal::{Refusal, Way};
 use settings::Settings;
 
-// What a whole fit answers: as a resuming call, but never pending.
+// What a whole fit that is done says: as a resuming call, but never pending.
 #[derive(Clone, Copy)]
-pub enum Final {
-    Done(f64, Way, Counts),
-    Refused(Refusal),
+pub struct Fitted {
+    pub intercept: f64,
+    pub way: Way,
+    pub counts: Counts,
 }
 
 // The answer, and an ended record with the counts.
 #[derive(Clone, Copy)]
 pub struct Whole {
-    pub answer: Final,
+    pub answer: Result<Fitted, Refusal>,
     pub paused: Paused,
 }
 
@@ -29,35 +30,36 @@ pub struct Whole {
 pub fn refused(r: Refusal) -> Whole
     ensures { result ≡ refused_as r }
 {
-    let c = no_counts();
-    let e = ended(c);
     Whole {
-        answer: Final::Refused(r),
-        paused: e,
+        answer: Err(r),
+        paused: ended(no_counts()),
     }
 }
 
-// What the call that ended a fit says of it. The last arm is never reached, since the fit has ended.
+// What the call that ended a fit says of it.
 pub fn settled(r: Resumed) -> Whole
     requires { HasEnded r }
     ensures { Settles r result }
 {
-    let a = r.answer;
-    let e = r.paused;
-    match a {
-        Answer::Done(b, way, c) => Whole {
-            answer: Final::Done(b, way, c),
-            paused: e,
+    match r.answer {
+        Answer::Done(intercept, way, counts) => Whole {
+            answer: Ok(Fitted {
+                intercept,
+                way,
+                counts,
+            }),
+            paused: r.paused,
         },
         Answer::Refused(q) => Whole {
-            answer: Final::Refused(q),
-            paused: e,
+            answer: Err(q),
+            paused: r.paused,
         },
-        Answer::Pending => refused(Refusal::Record),
+        Answer::Pending => unreachable!(),
     }
 }
 
 // The start of a fit whose weights are lent from the beginning: their number is tested with the other lengths, before anything is written.
+#[tactic(auto, unfolding(crate::specs::Fit::start_whole))]
 pub fn start_whole(
     n: usize,
     p: usize,
@@ -66,13 +68,11 @@ pub fn start_whole(
     st: Settings,
     s: &mut [f64],
     weights: usize,
-) -> Started
+) -> Result<Paused, Refusal>
     ensures { start_outcome result s.new ≡ start_whole n p x.now y.now st s.old weights }
 {
-    match limits(n, p, x.len(), y.len(), weights, st, s.len()) {
-        Checked::Fine => start(n, p, x, y, st, s),
-        Checked::Bad(r) => Started::Refused(r),
-    }
+    limits(n, p, x.len(), y.len(), weights, st, s.len())?;
+    start(n, p, x, y, st, s)
 }
 
 // A whole fit: the start, and one call with 5,100 steps for each round, the most that a round takes. Total, for all input.
@@ -89,7 +89,7 @@ pub fn fit(
         ≡ whole_of n p x.now y.now st s.old w.old }
 {
     match start_whole(n, p, x, y, st, s, w.len()) {
-        Started::Ready(rec) => settled(resume(n, p, x, y, st, rec, s, w, 5100 * st.max_iter)),
-        Started::Refused(r) => refused(r),
+        Ok(rec) => settled(resume(n, p, x, y, st, rec, s, w, 5100 * st.max_iter)),
+        Err(r) => refused(r),
     }
 }

@@ -3,21 +3,21 @@
 
 ghost use Rattle.std.specs.Prelude.{◌≡◌, length};
 
-use elastic_net::{Answer, Started, resume, start};
+use elastic_net::{Answer, resume, start};
 use lone_solver::solve;
 use numbers::bits::bits_of;
 use paused_fit::fit_in_pieces;
-use prediction::{Predicted, predict};
+use prediction::predict;
 use records::{Counts, Paused};
-use refusal::{Refusal, Way, number, place};
+use refusal::{Refusal, Way};
 use settings::Settings;
 use sheet::{count_rows, read_sheet};
 use sheet_front::Version;
-use sheet_header::Read;
+use sheet_header::Header;
 use sheet_move::{Moved, move_down, move_up};
-use sheet_write::{Written, write_sheet};
+use sheet_write::write_sheet;
 use std::io;
-use whole_fit::{Final, fit};
+use whole_fit::fit;
 
 // An error where printing fails, here as in each function that prints.
 fn main(rt: HostRuntime) -> io::Result<()> {
@@ -47,8 +47,8 @@ fn in_budgets(rt: &impl Print) -> io::Result<()> {
     let y = [1.0, 2.0, 3.0, 4.0];
     let mut scratch = [0.0; 120];
     match start(4, 2, &x, &y, settings(), &mut scratch) {
-        Started::Ready(record) => three_calls(rt, &x, &y, scratch, record),
-        Started::Refused(r) => refused(rt, r),
+        Ok(record) => three_calls(rt, &x, &y, scratch, record),
+        Err(r) => refused(rt, r),
     }
 }
 
@@ -80,8 +80,7 @@ fn call(
     requires { length w.old ≡ 2 }
 {
     let r = resume(4, 2, x, y, settings(), record, s, w, 20);
-    let a = r.answer;
-    match a {
+    match r.answer {
         Answer::Pending => println!(rt; "pending")?,
         Answer::Done(intercept, way, c) => done(rt, intercept, way, c, w[0], w[1])?,
         Answer::Refused(r) => refused(rt, r)?,
@@ -96,11 +95,10 @@ fn in_pieces(rt: &impl Print) -> io::Result<()> {
     let mut scratch = [0.0; 120];
     let mut weights = [0.0; 2];
     let r = fit_in_pieces(4, 2, &x, &y, settings(), &mut scratch, &mut weights, 20, 20);
-    let a = r.answer;
     print!(rt; "in pieces: ")?;
-    match a {
-        Final::Done(_, way, c) => ended(rt, way, c),
-        Final::Refused(r) => refused(rt, r),
+    match r.answer {
+        Ok(f) => ended(rt, f.way, f.counts),
+        Err(r) => refused(rt, r),
     }
 }
 
@@ -110,10 +108,9 @@ fn whole(rt: &impl Print) -> io::Result<()> {
     let mut scratch = [0.0; 120];
     let mut weights = [0.0; 2];
     let r = fit(4, 2, &x, &y, settings(), &mut scratch, &mut weights);
-    let a = r.answer;
-    match a {
-        Final::Done(intercept, way, c) => done(rt, intercept, way, c, weights[0], weights[1]),
-        Final::Refused(r) => refused(rt, r),
+    match r.answer {
+        Ok(f) => done(rt, f.intercept, f.way, f.counts, weights[0], weights[1]),
+        Err(r) => refused(rt, r),
     }
 }
 
@@ -122,8 +119,8 @@ fn predictions(rt: &impl Print) -> io::Result<()> {
     let w = [0.5, 0.25];
     let mut out = [0.0; 2];
     match predict(2, 2, &x, &w, 1.0, &mut out) {
-        Predicted::Done => two(rt, "predicted", out[0], out[1]),
-        Predicted::Refused(r) => refused(rt, r),
+        Ok(()) => two(rt, "predicted", out[0], out[1]),
+        Err(r) => refused(rt, r),
     }
 }
 
@@ -166,17 +163,17 @@ fn sheet_bytes(rt: &impl Print) -> io::Result<()> {
     moved(rt, move_down(&family, &mut sheet))
 }
 
-fn written(rt: &impl Print, o: Written) -> io::Result<()> {
+fn written(rt: &impl Print, o: Result<usize, Refusal>) -> io::Result<()> {
     match o {
-        Written::Sheet(k) => println!(rt; "written, {k} bytes"),
-        Written::Refused(r) => refused(rt, r),
+        Ok(k) => println!(rt; "written, {k} bytes"),
+        Err(r) => refused(rt, r),
     }
 }
 
-fn moved(rt: &impl Print, o: Moved) -> io::Result<()> {
+fn moved(rt: &impl Print, o: Result<Moved, Refusal>) -> io::Result<()> {
     match o {
-        Moved::Sheet(k, family) => println!(rt; "moved, {k} bytes, family {family}"),
-        Moved::Refused(r) => refused(rt, r),
+        Ok(m) => println!(rt; "moved, {} bytes, family {}", m.bytes, m.family),
+        Err(r) => refused(rt, r),
     }
 }
 
@@ -185,21 +182,18 @@ fn rows(rt: &impl Print, bytes: &[u8]) -> io::Result<()> {
     let mut x = [0.0; 2];
     let mut y = [0.0; 2];
     match read_sheet(bytes, 32, 8, &mut x, &mut y) {
-        Read::Sheet(_) => {
+        Ok(_) => {
             two(rt, "features", x[0], x[1])?;
             two(rt, "scores", y[0], y[1])
         }
-        Read::Refused(r) => refused(rt, r),
+        Err(r) => refused(rt, r),
     }
 }
 
-fn rows_left(rt: &impl Print, o: Read) -> io::Result<()> {
+fn rows_left(rt: &impl Print, o: Result<Header, Refusal>) -> io::Result<()> {
     match o {
-        Read::Sheet(h) => {
-            let n = h.n;
-            println!(rt; "{n} rows remain")
-        }
-        Read::Refused(r) => refused(rt, r),
+        Ok(h) => println!(rt; "{} rows remain", h.n),
+        Err(r) => refused(rt, r),
     }
 }
 
@@ -212,34 +206,22 @@ fn done(rt: &impl Print, intercept: f64, way: Way, c: Counts, w0: f64, w1: f64) 
 
 // How a fit ended, and its counts.
 fn ended(rt: &impl Print, way: Way, c: Counts) -> io::Result<()> {
-    told(rt, way)?;
-    counts(rt, c)
+    println!(rt;
+        "{way}, rounds {} solver {} trials {}",
+        c.rounds.0, c.solver.0, c.trials.0
+    )
 }
 
-fn told(rt: &impl Print, w: Way) -> io::Result<()> {
-    match w {
-        Way::Converged => print!(rt; "converged"),
-        Way::Limit => print!(rt; "limit"),
-    }
-}
-
-fn counts(rt: &impl Print, c: Counts) -> io::Result<()> {
-    let n = c.rounds.0;
-    let b = c.solver.0;
-    let t = c.trials.0;
-    println!(rt; ", rounds {n} solver {b} trials {t}")
-}
-
-fn solved(rt: &impl Print, a: lone_solver::Answer, x0: f64, x1: f64, x2: f64) -> io::Result<()> {
+fn solved(rt: &impl Print, a: Result<f64, Refusal>, x0: f64, x1: f64, x2: f64) -> io::Result<()> {
     match a {
-        lone_solver::Answer::Solved(error) => {
+        Ok(error) => {
             one(rt, "solved", x0)?;
             one(rt, "", x1)?;
             one(rt, "", x2)?;
             one(rt, ", error", error)?;
             println!(rt; "")
         }
-        lone_solver::Answer::Refused(r) => refused(rt, r),
+        Err(r) => refused(rt, r),
     }
 }
 
@@ -255,7 +237,5 @@ fn one(rt: &impl Print, name: &str, a: f64) -> io::Result<()> {
 }
 
 fn refused(rt: &impl Print, r: Refusal) -> io::Result<()> {
-    let n = number(r);
-    let at = place(r);
-    println!(rt; "refused {n} at {at}")
+    println!(rt; "{r}")
 }

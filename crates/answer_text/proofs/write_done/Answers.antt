@@ -1,18 +1,8 @@
 -- `answer_text::write_done` meets its contract: the lines before the weights have 127 bytes at most, so 2,048 hold those of the weights too. Assumes nothing.
-use borrow.Author.Tests.{lt-ltb, le-ltb}
 use native.Mathlib.Omega.{arith}
-use Rattle.answer_text.specs.Text.{done_of, laid}
 use Rattle.answer_text.proofs.Writes.{upto}
 use Rattle.answer_text.proofs.Lines.{end-long, counts-long, word-long, done-written}
 use Rattle.answer_text.proofs.write_done.Goals as goal
-
-pub returns-then-w-gt64 : goal.returns-then-w-gt64
-unfolding done_of
-returns-then-w-gt64 c = rw (lt-ltb _ _ c.if-w-gt64.true)
-
-pub returns-then-out-lt2048 : goal.returns-then-out-lt2048
-unfolding done_of laid
-returns-then-out-lt2048 c = rw (le-ltb _ _ c.if-w-gt64.false, lt-ltb _ _ c.if-out-lt2048.true)
 
 pub counts-b-requires : goal.counts-b-requires
 counts-b-requires c = let a = upto c.end-a.ensures (end-long _) in omega arith

@@ -12,30 +12,17 @@ returns-then-not-due c =
     (sym c.due.ensures ∙ c.if-not-due.true) c.no_counts.ensures c.refuse.ensures
 
 pub settings_from-requires : goal.settings_from-requires
-settings_from-requires c =
-    let is-due : let g = c.args in Due (length g.settings.now) (length g.rec.now) (length g.answer.now) ≡ true = sym c.due.ensures ∙ c.if-not-due.false in
-    let sized : let g = c.args in Lengths (length g.settings.now) (length g.rec.now) (length g.answer.now) = let g = c.args in
-    lengths (length g.settings.now) (length g.rec.now) (length g.answer.now) is-due in
-    sized.settings
+settings_from-requires c = (lengths _ _ _ (sym c.due.ensures ∙ c.if-not-due.false)).settings
 
 pub write_started-requires : goal.write_started-requires
-write_started-requires c =
-    let is-due : let g = c.args in Due (length g.settings.now) (length g.rec.now) (length g.answer.now) ≡ true = sym c.due.ensures ∙ c.if-not-due.false in
-    let sized : let g = c.args in Lengths (length g.settings.now) (length g.rec.now) (length g.answer.now) = let g = c.args in
-    lengths (length g.settings.now) (length g.rec.now) (length g.answer.now) is-due in
-    sized.paused
+write_started-requires c = (lengths _ _ _ (sym c.due.ensures ∙ c.if-not-due.false)).paused
 
 pub write_answer-requires : goal.write_answer-requires
-write_answer-requires c =
-    let is-due : let g = c.args in Due (length g.settings.now) (length g.rec.now) (length g.answer.now) ≡ true = sym c.due.ensures ∙ c.if-not-due.false in
-    let sized : let g = c.args in Lengths (length g.settings.now) (length g.rec.now) (length g.answer.now) = let g = c.args in
-    lengths (length g.settings.now) (length g.rec.now) (length g.answer.now) is-due in
-    sized.answer
+write_answer-requires c = (lengths (length c.args.settings.now) (length c.args.rec.now) _ (sym c.due.ensures ∙ c.if-not-due.false)).answer
 
 pub returns : goal.returns
 returns c =
-    let is-due : let g = c.args in Due (length g.settings.now) (length g.rec.now) (length g.answer.now) ≡ true = sym c.due.ensures ∙ c.if-not-due.false in
     let g = c.args in
     start-due g.n g.p g.x.now g.y.now g.settings.now g.rec.now g.s.now g.answer.now
-    c.start-o.result c.start-o.new.s is-due c.settings_from.ensures c.start-o.ensures
+    c.start-o.result c.start-o.new.s (sym c.due.ensures ∙ c.if-not-due.false) c.settings_from.ensures c.start-o.ensures
     c.write_started.ensures c.started-t.ensures c.no_counts-2.ensures c.write_answer.ensures

@@ -1,7 +1,6 @@
 use mathlib.Core.Path.{◌≡◌, refl}
 use native.Mathlib.Omega.{arith}
 use lib.ListN.{length-set}
-use Rattle.matrices.proofs.Lengths.{row_room}
 use Rattle.several.proofs.Added.{gathered_none, gathered-more}
 use Rattle.column_moments.specs.Added.{itself, squared, rows_added}
 use Rattle.column_moments.proofs.Pairs.{pair-none, column-added}
@@ -12,21 +11,6 @@ loop-j-init c = (omega arith, pair-none _ _ _ _ _ (omega arith) (omega arith))
 
 pub loop-k-init : goal.loop-k-init
 loop-k-init c = (omega arith, gathered_none _ _ _ _ _ _ _, gathered_none _ _ _ _ _ _ _)
-
-pub overflow_mul-x : goal.overflow_mul-x
-overflow_mul-x c = omega (arith, row_room c.loop-k.k 4 c.args.cols c.loop-k-test.true)
-
-pub overflow_add-x : goal.overflow_add-x
-overflow_add-x c = omega (arith, row_room c.loop-k.k 4 c.args.cols c.loop-k-test.true)
-
-pub overflow_add-x-in-loop-k : goal.overflow_add-x-in-loop-k
-overflow_add-x-in-loop-k c = omega (arith, row_room c.loop-k.k 4 c.args.cols c.loop-k-test.true)
-
-pub offset_bounds-m-at : goal.offset_bounds-m-at
-offset_bounds-m-at c = omega (arith, row_room c.loop-k.k 4 c.args.cols c.loop-k-test.true)
-
-pub bounds-m-at : goal.bounds-m-at
-bounds-m-at c = omega (arith, row_room c.loop-k.k 4 c.args.cols c.loop-k-test.true)
 
 pub loop-k-preserved : goal.loop-k-preserved
 loop-k-preserved c = (omega arith, gathered-more itself _ _ _ _ _ _ _ _ _ c.loop-k.invariant.1 refl, gathered-more squared _ _ _ _ _ _ _ _ _ c.loop-k.invariant.2 refl)

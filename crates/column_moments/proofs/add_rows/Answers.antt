@@ -8,16 +8,6 @@ use Rattle.column_moments.proofs.add_rows.Goals as goal
 pub loop-i-init : goal.loop-i-init
 loop-i-init c = (omega arith, rows_none _ _ _ _ _ _ (omega arith) (omega arith))
 
-pub overflow_mul-i : goal.overflow_mul-i
-overflow_mul-i c =
-    let g = c.args in
-    omega (arith, row_room c.loop-i.i g.left g.cols c.loop-i-test.true)
-
-pub overflow_add-at : goal.overflow_add-at
-overflow_add-at c =
-    let g = c.args in
-    omega (arith, row_room c.loop-i.i g.left g.cols c.loop-i-test.true)
-
 pub add_row-requires : goal.add_row-requires
 add_row-requires c =
     let g = c.args in

@@ -2,10 +2,7 @@
 use Rattle.duality.proofs.Stores.{did-gap}
 use Rattle.duality.proofs.gap.Goals as goal
 
-pub residuals-gradphi-requires : goal.residuals-gradphi-requires
-residuals-gradphi-requires c = record { held = c.requires.held; known = c.requires.known }
-
 pub returns : goal.returns
 returns c =
-    did-gap c.requires.held.room.laid c.args.t c.residuals-gradphi.ensures.makes c.residuals-gradphi.ensures.gradphi c.norm_inf-most.ensures c.shrink.ensures
+    did-gap c.args.fit.now.laid c.args.fit.now.terms c.residuals-gradphi.ensures.makes c.residuals-gradphi.ensures.gradphi c.norm_inf-most.ensures c.shrink.ensures
     c.primal_and_dual-o.ensures.primal_value c.primal_and_dual-o.ensures.dual_value

@@ -1,7 +1,6 @@
 use Prim.Native.Nat.{◌<◌}
 use native.Mathlib.Omega.{arith}
-use lib.Ieee.{nan}
-use Rattle.arrays.proofs.Part.{get_or-part}
+use Rattle.arrays.proofs.Ranges.{length_range, range-part}
 use Rattle.arrays.specs.Vectors.{zip_of}
 use Rattle.arrays.proofs.Turns.{made_none, array-more, array-all}
 use Rattle.ending.specs.End.{rescaled_of}
@@ -14,11 +13,11 @@ loop-i-init c = made_none _ _ _ _
 pub loop-i-preserved : goal.loop-i-preserved
 loop-i-preserved c =
     let g = c.args in
-    let h : c.loop-i.i < g.p = omega arith in
-    let e = unwritten c.loop-i.invariant h in
-    let d = get_or-part g.s.now g.sc g.p c.loop-i.i nan h in
-    array-more c.loop-i.invariant _ h (rw (e, d))
+    let h : c.loop-i.i < g.p = omega (arith, length_range g.s.now g.sc g.p) in
+    array-more c.loop-i.invariant _ h (rw (unwritten c.loop-i.invariant h, range-part))
 
 pub returns : goal.returns
 unfolding rescaled_of zip_of
-returns c = array-all c.loop-i.invariant (omega arith) c.requires.w_len
+returns c =
+    let g = c.args in
+    array-all c.loop-i.invariant (omega (arith, length_range g.s.now g.sc g.p)) c.requires.w_len

@@ -1,5 +1,4 @@
--- `ending::rescale` meets its contract. The invariant: the first i weights are rescaled, and the others are as they were. The measure: p - i. Assumes nothing.
-use Prim.Native.Nat.{◌-◌}
+-- `ending::rescale` meets its contract. The invariant: the first i weights are rescaled, and the others are as they were. Assumes nothing.
 use Rattle.numbers.specs.Ops.{◌⊗◌, ◌⊘◌}
 use Rattle.arrays.specs.Part.{part}
 use Rattle.arrays.specs.Sums.{◌!◌}
@@ -8,6 +7,3 @@ use Rattle.ending.proofs.rescale.Given as goal
 
 abbrev pub invariant-loop-i : goal.invariant-loop-i
 invariant-loop-i l = Made l.initial.w 0 l.p (λ k. l.gamma ⊗ l.initial.w ! k ⊘ part l.s l.sc l.p ! k) l.w l.i
-
-abbrev pub decreases-loop-i : goal.decreases-loop-i
-decreases-loop-i l = l.p - l.i

@@ -8,7 +8,7 @@ use Rattle.arrays.proofs.Folds.{fold-ext}
 use Rattle.several.specs.Several.{gathered, added_of}
 use Rattle.gram_panels.specs.Panels.{wid, sum_at, carry, Block}
 use Rattle.matrices.proofs.Lengths.{row_room}
-use Rattle.gram_panels.proofs.Mats.{Striped, striped-none, striped-more, striped-all, before-rows, beyond-rows}
+use Rattle.gram_panels.proofs.Mats.{Striped, striped-none, striped-more, before-rows, beyond-rows}
 use Rattle.gram_panels.proofs.block.Goals as goal
 
 turn : {s₀ : List Float} {g p nj nk d l r cc nr : ℕ} {s s' : List Float} {a w : ℕ} → Block s₀ g p nj nk d l r cc nr
@@ -25,34 +25,6 @@ turn {s₀} {g} {p} {nj} {nk} {d} {l} {r} {cc} {nr} {s} {s'} {a} {w} pre t h ew 
 pub loop-a-init : goal.loop-a-init
 loop-a-init c = striped-none _ _ _ _ _ _
 
-pub overflow_mul-a : goal.overflow_mul-a
-overflow_mul-a c =
-    let g = c.args in
-    let h = row_room c.loop-a.a g.nj g.p (omega arith) in
-    omega arith
-
-pub overflow_add-g : goal.overflow_add-g
-overflow_add-g c =
-    let g = c.args in
-    let h = row_room c.loop-a.a g.nj g.p (omega arith) in
-    omega arith
-
-pub overflow_add-l : goal.overflow_add-l
-overflow_add-l c =
-    let g = c.args in
-    let h = row_room c.loop-a.a g.nj g.p (omega arith) in
-    omega arith
-
-pub entry_row-requires : goal.entry_row-requires
-entry_row-requires c =
-    let g = c.args in
-    let h = row_room c.loop-a.a g.nj g.p (omega arith) in
-    record { room = omega arith; width = omega arith; left = omega arith; fits = omega arith; right = omega arith }
-
 pub loop-a-preserved : goal.loop-a-preserved
 loop-a-preserved c =
-    let lo = c.least_of-w in
-    turn c.requires c.loop-a.invariant (omega arith) lo.ensures c.entry_row.ensures
-
-pub returns : goal.returns
-returns c = striped-all c.loop-a.invariant (omega arith)
+    turn c.requires c.loop-a.invariant (omega arith) (omega (arith, c.min-w.ensures)) c.entry_row.ensures

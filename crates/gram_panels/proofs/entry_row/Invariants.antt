@@ -1,12 +1,12 @@
--- `gram_panels::entry_row` meets its contract. The invariant: the w sums are those after i rows of the panels, and all else is as it was.
--- The measure: nr - i, which falls by four. Assumes nothing.
-use Prim.Native.Nat.{◌-◌, ◌≤◌}
+-- `gram_panels::entry_row` meets its contract. The invariants: the w sums are those after 4 * i, or i, rows of the panels, and all else is as it was.
+-- Assumes nothing.
+use Prim.Native.Nat.{◌*◌}
 use Rattle.arrays.proofs.Turns.{Made}
 use Rattle.gram_panels.specs.Panels.{sum_at}
 use Rattle.gram_panels.proofs.entry_row.Given as goal
 
 abbrev pub invariant-loop-i : goal.invariant-loop-i
-invariant-loop-i l = (l.i ≤ l.nr) × Made l.initial.s l.at l.w (sum_at l.initial.s l.at l.l l.r l.cc l.i) l.s l.w
+invariant-loop-i l = Made l.fn.s l.at l.w (sum_at l.fn.s l.at l.pair.left l.pair.right l.pair.cc (4 * l.i)) l.s l.w
 
-abbrev pub decreases-loop-i : goal.decreases-loop-i
-decreases-loop-i l = l.nr - l.i
+abbrev pub invariant-loop-i-2 : goal.invariant-loop-i-2
+invariant-loop-i-2 l = Made l.fn.s l.at l.w (sum_at l.fn.s l.at l.pair.left l.pair.right l.pair.cc l.i) l.s l.w

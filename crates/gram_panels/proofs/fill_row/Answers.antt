@@ -7,7 +7,7 @@ use lib.Ieee.{Float, nan}
 use Rattle.arrays.specs.Part.{tab}
 use Rattle.arrays.proofs.Part.{get_or-put-above}
 use Rattle.arrays.specs.Sums.{◌!◌}
-use Rattle.arrays.proofs.Turns.{Made, made_none, made_more, made_all}
+use Rattle.arrays.proofs.Turns.{Made, made_none, made_more}
 use Rattle.gram_panels.specs.Panels.{norm_at}
 use Rattle.gram_panels.proofs.fill_row.Goals as goal
 
@@ -28,6 +28,3 @@ loop-b-preserved c =
     let a = c.args in
     let pre = c.requires in
     turn a.m.now a.at a.ce a.sc c.loop-b.invariant (omega arith) pre.centres pre.scales
-
-pub returns : goal.returns
-returns c = made_all c.loop-b.invariant (omega arith)

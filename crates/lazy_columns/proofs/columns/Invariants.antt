@@ -1,18 +1,20 @@
--- `lazy_columns::columns` meets its contract. The invariant: row i begins at `at`, and over whatever b the fours' sums were written to the sums of the first
--- i rows now are. The measure: n - i. Assumes nothing.
-use Prim.Native.Nat.{◌+◌, ◌-◌, ◌*◌, ◌≤◌}
+-- `lazy_columns::columns` meets its contract. The invariants: the sums have the first 4 * i, or i, rows, and all else is as it was; and fours reach no row beyond
+-- the last, and none where a reciprocal is missing. Assumes nothing.
 use mathlib.Core.Path.{◌≡◌}
-use mathlib.Core.List.{List}
-use lib.ListN.{length}
-use lib.Ieee.{Float}
+use mathlib.Core.Bool.{true}
+use Prim.Native.Nat.{◌+◌, ◌*◌, ◌≤◌, ◌<◌}
+use Rattle.arrays.specs.Part.{part}
 use Rattle.arrays.proofs.Turns.{Made}
+use Rattle.lazy_columns.specs.ColumnSums.{all_there}
 use Rattle.lazy_columns.proofs.ColumnSums.{column_sum}
 use Rattle.lazy_columns.proofs.columns.Given as goal
 
 abbrev pub invariant-loop-i : goal.invariant-loop-i
-invariant-loop-i l =
-    (l.i ≤ l.n) × (l.at ≡ l.i * l.p) × (length l.s ≡ length l.initial.s)
-    × ((b : List Float) → Made b l.out l.p (column_sum l.m b l.p l.l l.out l.v (l.n + l.p) l.initial.i) l.initial.s l.p → Made b l.out l.p (column_sum l.m b l.p l.l l.out l.v (l.n + l.p) l.i) l.s l.p)
+invariant-loop-i l = record {
+  within : 4 * l.fours ≤ l.n;
+  there : 0 < l.fours → all_there (part l.fn.s l.l.recip l.p) l.p ≡ true;
+  made : Made l.fn.s l.out l.p (column_sum l.m l.fn.s l.p l.l l.v (l.n + l.p) (4 * l.i)) l.s l.p;
+}
 
-abbrev pub decreases-loop-i : goal.decreases-loop-i
-decreases-loop-i l = l.n - l.i
+abbrev pub invariant-loop-i-2 : goal.invariant-loop-i-2
+invariant-loop-i-2 l = Made l.fn.s l.out l.p (column_sum l.m l.fn.s l.p l.l l.v (l.n + l.p) l.i) l.s l.p

@@ -1,6 +1,6 @@
 -- `lazy_gram::augment` meets its contract. The invariant: the first j rows of the lower triangle are augmented, and all else is as it was.
--- The measure: p - j. Assumes nothing.
-use Prim.Native.Nat.{◌+◌, ◌-◌, ◌*◌}
+-- Assumes nothing.
+use Prim.Native.Nat.{◌+◌, ◌*◌}
 use Rattle.gram_panels.specs.Panels.{low}
 use Rattle.gram_panels.proofs.Mats.{Striped}
 use Rattle.lazy_gram.specs.Nest.{raised_at}
@@ -8,6 +8,3 @@ use Rattle.lazy_gram.proofs.augment.Given as goal
 
 abbrev pub invariant-loop-j : goal.invariant-loop-j
 invariant-loop-j l = Striped l.initial.s l.ga l.p low (λ a. raised_at l.initial.s (l.ga + a * l.p) l.gg l.pp a) l.p l.s l.j
-
-abbrev pub decreases-loop-j : goal.decreases-loop-j
-decreases-loop-j l = l.p - l.j

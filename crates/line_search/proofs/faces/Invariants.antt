@@ -1,6 +1,5 @@
--- `line_search::faces` meets its contract. The invariant: the pairs of the first i weights are written, the next goes to `at`, and all else is as it was.
--- The measure: p - i. Assumes nothing.
-use Prim.Native.Nat.{◌-◌}
+-- `line_search::faces` meets its contract. The invariant: the pairs of the first i weights are written, and all else is as it was.
+-- Assumes nothing.
 use mathlib.Core.Bool.{cond}
 use lib.Dec.{eqb}
 use lib.Ieee.{neg}
@@ -11,7 +10,4 @@ use Rattle.line_search.proofs.Pairs.{Paired}
 use Rattle.line_search.proofs.faces.Given as goal
 
 abbrev pub invariant-loop-i : goal.invariant-loop-i
-invariant-loop-i l = Paired l.initial.s l.out l.p (λ k c. cond (eqb c 0) (part l.initial.s l.w l.p ! k ⊖ part l.initial.s l.u l.p ! k) (neg (part l.initial.s l.w l.p ! k) ⊖ part l.initial.s l.u l.p ! k)) l.s l.at l.i
-
-abbrev pub decreases-loop-i : goal.decreases-loop-i
-decreases-loop-i l = l.p - l.i
+invariant-loop-i l = Paired l.initial.s l.out l.p (λ k c. cond (eqb c 0) (part l.initial.s l.w l.p ! k ⊖ part l.initial.s l.u l.p ! k) (neg (part l.initial.s l.w l.p ! k) ⊖ part l.initial.s l.u l.p ! k)) l.s l.i

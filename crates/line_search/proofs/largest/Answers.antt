@@ -1,23 +1,13 @@
-use mathlib.Core.Path.{◌≡◌, sym, ◌∙◌}
-use native.Mathlib.Omega.{arith}
-use lib.Ieee.{nan, div, neg, of_bits}
-use Rattle.arrays.proofs.Part.{get_or-part}
-use Rattle.arrays.proofs.Folds.{fold-none, fold-turn}
+-- `line_search::largest` meets its contract: its closure takes the larger of an element and what it has. Assumes nothing.
+use Rattle.std.proofs.Common.{rules}
+use lib.Ieee.{Float, div, neg, of_bits}
+use Rattle.numbers.specs.Order.{maximum_of}
+use Rattle.arrays.proofs.Ranges.{folds-part}
 use Rattle.line_search.specs.Search.{largest_of}
 use Rattle.line_search.proofs.largest.Goals as goal
 
-pub loop-i-init : goal.loop-i-init
-unfolding div neg of_bits
-loop-i-init c = (omega arith, sym (fold-none _ _ _))
-
-pub loop-i-preserved : goal.loop-i-preserved
-loop-i-preserved c =
-    let g = c.args in
-    let e = get_or-part g.s.now g.a g.n c.loop-i.i nan (omega arith) in
-    (omega arith, c.maximum-t.ensures ∙ fold-turn _ _ _ c.loop-i.i c.loop-i.t _ c.loop-i.invariant.1 (sym e))
-
 pub returns : goal.returns
-unfolding largest_of
+unfolding largest_of div neg of_bits
 returns c =
-    let e : c.loop-i.i ≡ c.args.n = omega arith in
-    rw e at c.loop-i.invariant.1
+    let g = c.args in
+    folds-part (λ (max v : Float). maximum_of v max) (λ v. v) (λ t x r f k. search rules) g.s.now g.a g.n (cc) c.requires c.fold.ensures.ran

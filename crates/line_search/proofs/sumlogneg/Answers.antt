@@ -1,22 +1,14 @@
-use mathlib.Core.Path.{◌≡◌, sym}
-use native.Mathlib.Omega.{arith}
-use lib.Ieee.{nan}
-use Rattle.arrays.proofs.Part.{get_or-part}
-use Rattle.arrays.proofs.Folds.{fold-none, fold-turn}
+-- `line_search::sumlogneg` meets its contract: its closure adds a logarithm. Assumes nothing.
+use Rattle.std.proofs.Common.{rules}
+use lib.Ieee.{Float, neg}
+use Rattle.numbers.specs.Ops.{◌⊕◌}
+use Rattle.logarithm.specs.Log.{ln_of}
+use Rattle.arrays.proofs.Ranges.{folds-part}
 use Rattle.line_search.specs.Search.{sumlogneg_of}
 use Rattle.line_search.proofs.sumlogneg.Goals as goal
-
-pub loop-i-init : goal.loop-i-init
-loop-i-init c = (omega arith, sym (fold-none _ _ _))
-
-pub loop-i-preserved : goal.loop-i-preserved
-loop-i-preserved c =
-    let g = c.args in
-    let e = get_or-part g.s.now g.a g.n c.loop-i.i nan (omega arith) in
-    (omega arith, fold-turn _ _ _ c.loop-i.i c.loop-i.t _ c.loop-i.invariant.1 (rw (c.ln-t.ensures, e)))
 
 pub returns : goal.returns
 unfolding sumlogneg_of
 returns c =
-    let e : c.loop-i.i ≡ c.args.n = omega arith in
-    rw e at c.loop-i.invariant.1
+    let g = c.args in
+    folds-part (λ (t x : Float). t ⊕ x) (λ (v : Float). ln_of (neg v)) (λ t x r f k. search rules) g.s.now g.a g.n (cc) c.requires c.fold.ensures.ran

@@ -1,13 +1,9 @@
--- `lone_rounds::diagonal` meets its contract. The invariant: the first i elements are copied, the next stands at `at`, and all else is as it was.
--- The measure: n - i. Assumes nothing.
-use mathlib.Core.Path.{◌≡◌}
-use Prim.Native.Nat.{◌+◌, ◌-◌, ◌*◌}
+-- `lone_rounds::diagonal` meets its contract. The invariant: the first i elements are copied, and all else is as it was.
+-- Assumes nothing.
+use Prim.Native.Nat.{◌+◌, ◌*◌}
 use Rattle.arrays.specs.Sums.{◌!◌}
 use Rattle.arrays.proofs.Turns.{Made}
 use Rattle.lone_rounds.proofs.diagonal.Given as goal
 
 abbrev pub invariant-loop-i : goal.invariant-loop-i
-invariant-loop-i l = Made l.initial.s l.out l.n (λ k. l.a ! (k * l.n + k)) l.s l.i × (l.at ≡ l.i * l.n + l.i)
-
-abbrev pub decreases-loop-i : goal.decreases-loop-i
-decreases-loop-i l = l.n - l.i
+invariant-loop-i l = Made l.initial.s l.out l.n (λ k. l.a ! (k * l.n + k)) l.s l.i

@@ -1,5 +1,5 @@
--- `lone_rounds::divide` meets its contract. The invariant: the first i quotients are written, and all else is as it was. The measure: n - i. Assumes nothing.
-use Prim.Native.Nat.{◌-◌, ◌*◌}
+-- `lone_rounds::divide` meets its contract. The invariant: the first i quotients are written, and all else is as it was. Assumes nothing.
+use Prim.Native.Nat.{◌*◌}
 use Rattle.arrays.specs.Part.{part}
 use Rattle.arrays.specs.Sums.{◌!◌}
 use Rattle.arrays.proofs.Turns.{Made}
@@ -8,6 +8,3 @@ use Rattle.lone_rounds.proofs.divide.Given as goal
 
 abbrev pub invariant-loop-i : goal.invariant-loop-i
 invariant-loop-i l = Made l.initial.s l.out l.n (λ k. over_of (part l.initial.s l.b l.n ! k) (part l.initial.s (7 * l.n) l.n ! k)) l.s l.i
-
-abbrev pub decreases-loop-i : goal.decreases-loop-i
-decreases-loop-i l = l.n - l.i

@@ -1,46 +1,61 @@
--- `matrix_columns::columns_both` meets its contract: sums of +0, rows by fours, and the remaining rows, for both products. Assumes nothing.
-use Prim.Native.Nat.{◌*◌, ◌/◌, ◌≤◌}
-use mathlib.Core.Path.{◌∙◌}
-use native.Mathlib.Nat.{mul-le-mul_right}
+use mathlib.Core.Path.{◌≡◌, refl, ap}
+use Prim.Native.Nat.{ℕ, ◌+◌, ◌*◌, ◌/◌}
 use native.Mathlib.Omega.{arith}
-use Rattle.arrays.proofs.Turns.{made_of}
-use Rattle.matrix_columns.proofs.Summed.{alike, filled, together-on, first_rows, last-rows, columns-left}
+use Rattle.arrays.specs.Sums.{◌!◌}
+use Rattle.matrices.proofs.Lengths.{row_room, rows-room}
+use Rattle.matrices.specs.Products.{columns_of}
+use Rattle.matrix_columns.proofs.Summed.{alike, clear-row, clear-rows, summed-none, summed-more, summed-one}
 use Rattle.matrix_columns.proofs.columns_both.Goals as goal
 
-pub add_fours_both-requires : goal.add_fours_both-requires
-add_fours_both-requires c =
-    let n = 4 * (c.args.rows / 4) in
-    let h : n ≤ c.args.rows = omega arith in
-    let e = c.fill.auto.s in
-    record { together = together-on e (first_rows c.requires.together n h); together_2 = together-on e (first_rows c.requires.together_2 n h); cols_in_bounds = omega arith }
+pub loop-i-init : goal.loop-i-init
+loop-i-init c = (summed-none _ _ _ _ _ _ _ _ c.fill.ensures, summed-none _ _ _ _ _ _ _ _ c.fill-2.ensures)
 
-pub overflow_mul-n-2 : goal.overflow_mul-n-2
-overflow_mul-n-2 c =
+pub add_four_both-requires-clause-four : goal.add_four_both-requires-clause-four
+add_four_both-requires-clause-four c =
     let g = c.args in
-    let h : 4 * (g.rows / 4) ≤ g.rows = omega arith in
-    omega (arith, mul-le-mul_right g.cols h)
+    let h = rows-room (4 * c.loop-i.i) 4 g.rows g.cols (omega arith) in
+    record { room = omega arith; last = omega arith; clear = λ k l. clear-rows c.requires.together (4 * c.loop-i.i) k (omega arith) }
 
-pub overflow_add-mat : goal.overflow_add-mat
-overflow_add-mat c =
-    let g = c.args in
-    let h : 4 * (g.rows / 4) ≤ g.rows = omega arith in
-    omega (arith, mul-le-mul_right g.cols h)
+pub loop-i-preserved : goal.loop-i-preserved
+loop-i-preserved c =
+    let pre = c.requires in
+    let i = c.loop-i.i in
+    let d = c.loop-i.invariant in
+    let e : 4 * i + 4 ≡ 4 * (i + 1) = omega arith in
+    let read : (v k : ℕ) → c.loop-i.s ! (v + 4 * i + k) ≡ c.loop-i.s ! (v + (4 * i + k)) = λ v k. ap (λ (a : ℕ). c.loop-i.s ! a) (omega arith) in (
+      rw e at (summed-more (alike pre.together d.0) (4 * i) d.0 pre.together.room 4 (omega arith) _ (λ k l. read c.args.v k) _ c.add_four_both.ensures.s_after),
+      rw e at (summed-more (alike pre.together_2 d.0) (4 * i) d.1 (omega (arith, pre.cols_in_bounds)) 4 (omega arith) _ (λ k l. read c.args.w k) _ c.add_four_both.ensures.t_after),
+    )
 
-pub add_rows_both-requires : goal.add_rows_both-requires
-add_rows_both-requires c =
-    let n = 4 * (c.args.rows / 4) in
-    let h : n ≤ c.args.rows = omega arith in
-    let e = c.add_fours_both.auto.s ∙ c.fill.auto.s in
-    record { together = together-on e (last-rows c.requires.together n h); together_2 = together-on e (last-rows c.requires.together_2 n h); cols_in_bounds = omega arith }
+pub loop-i-2-init : goal.loop-i-2-init
+loop-i-2-init c =
+    let e : c.loop-i.i ≡ c.args.rows / 4 = omega arith in
+    rw e at c.loop-i.invariant
+
+pub add_scaled_from-requires : goal.add_scaled_from-requires
+add_scaled_from-requires c =
+    let l = row_room c.loop-i-2.i c.args.rows c.args.cols c.loop-i-2-test.true in
+    record { n_in_bounds = omega arith; n_in_bounds_2 = omega arith }
+
+pub add_scaled-requires : goal.add_scaled-requires
+add_scaled-requires c =
+    let h = c.loop-i-2-test.true in
+    let l = row_room c.loop-i-2.i c.args.rows c.args.cols h in
+    record { room = omega arith; first = omega arith; second = omega arith; clear = λ _ _. refl; clear2 = clear-row c.requires.together c.loop-i-2.i h }
+
+pub loop-i-2-preserved : goal.loop-i-2-preserved
+loop-i-2-preserved c =
+    let pre = c.requires in
+    let i = c.loop-i-2.i in
+    let h = c.loop-i-2-test.true in
+    let d = c.loop-i-2.invariant in (
+      summed-one (alike pre.together d.0) i d.0 pre.together.room h _ c.add_scaled.ensures,
+      summed-one (alike pre.together_2 d.0) i d.1 (omega (arith, pre.cols_in_bounds)) h _ c.add_scaled_from.ensures,
+    )
 
 pub returns : goal.returns
+unfolding columns_of
 returns c =
-    let n = 4 * (c.args.rows / 4) in
-    let h : n ≤ c.args.rows = omega arith in
-    let none = filled _ _ _ _ c.fill.ensures in
-    let some = made_of _ _ _ _ _ c.add_fours_both.ensures.s_after in record {
-      s_after = columns-left (alike c.requires.together none) none c.requires.together.room n h (alike (together-on none.long c.requires.together) some) _ _
-          c.add_fours_both.ensures.s_after c.add_rows_both.ensures.s_after;
-      t_after = columns-left (alike c.requires.together_2 none) (filled _ _ _ _ c.fill-2.ensures) (omega (arith, c.requires.cols_in_bounds)) n h
-          (alike (together-on none.long c.requires.together_2) some) _ _ c.add_fours_both.ensures.t_after c.add_rows_both.ensures.t_after;
-    }
+    let e : c.loop-i-2.i ≡ c.args.rows = omega arith in
+    let d = rw e at c.loop-i-2.invariant in
+    record { s_after = d.0.is; t_after = d.1.is }

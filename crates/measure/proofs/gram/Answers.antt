@@ -1,9 +1,10 @@
 -- `measure::gram` meets its contract. Assumes nothing.
+use Rattle.layout.proofs.Fits.{room_of}
 use Rattle.beginning.proofs.Starts.{lent}
 use Rattle.measure.proofs.gram.Goals as goal
 
 pub gram-requires : goal.gram-requires
-gram-requires c = lent c.requires.begins c.if-sh.true
+gram-requires c = lent c.args.fit.now c.requires c.if-fit.true
 
 pub gram-requires-2 : goal.gram-requires-2
-gram-requires-2 c = c.requires.begins.room
+gram-requires-2 c = room_of c.args.fit.now c.requires

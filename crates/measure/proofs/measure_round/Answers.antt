@@ -11,14 +11,14 @@ overflow_mul-p c =
     let h : p ≤ 64 = omega arith in
     omega (arith, mul-le-mul h h)
 
-pub copy_from-requires : goal.copy_from-requires
+pub copy_from-requires-clause-n_in_bounds : goal.copy_from-requires-clause-n_in_bounds
 unfolding words
-copy_from-requires c = record { n_in_bounds = omega (arith, c.place-l.ensures.at-gram, c.need.ensures); n_in_bounds_2 = omega (arith, c.place-l.ensures.at-gram, c.need.ensures) }
+copy_from-requires-clause-n_in_bounds c = omega (arith, c.need.ensures)
 
-pub copy_from-requires-2 : goal.copy_from-requires-2
+pub copy_from-requires-2-clause-n_in_bounds : goal.copy_from-requires-2-clause-n_in_bounds
 unfolding words
-copy_from-requires-2 c = record { n_in_bounds = omega (arith, c.place-l.ensures.at-d1, c.need.ensures); n_in_bounds_2 = omega (arith, c.place-l.ensures.at-d1, c.need.ensures) }
+copy_from-requires-2-clause-n_in_bounds c = omega (arith, c.need.ensures)
 
 pub rounds-requires : goal.rounds-requires
 unfolding words
-rounds-requires c = record { room = omega (arith, c.need.ensures); laid = c.place-l.ensures }
+rounds-requires c = omega (arith, c.need.ensures)

@@ -1,20 +1,10 @@
-use native.Mathlib.Omega.{arith}
+-- `newton::prs` meets its contract: its closure computes an element of prs. Assumes nothing.
+use Rattle.std.proofs.Common.{rules}
 use lib.Ieee.{Float}
 use Rattle.numbers.specs.Ops.{◌⊖◌, ◌⊗◌}
-use Rattle.arrays.proofs.Turns.{made_none, made_all}
-use Rattle.newton.specs.Newton.{prs_of}
-use Rattle.newton.proofs.Three.{three-more}
+use Rattle.newton.specs.Newton.{prs_of, zip3_of}
 use Rattle.newton.proofs.prs.Goals as goal
 
-pub loop-i-init : goal.loop-i-init
-loop-i-init c = made_none _ _ _ _
-
-pub loop-i-preserved : goal.loop-i-preserved
-loop-i-preserved c =
-    let g = c.args in
-    three-more (λ (v a b : Float). v ⊗ a ⊖ b ⊗ b) g.prb g.d1 g.d2 c.loop-i.invariant (omega arith)
-    c.requires.clear c.requires.clear2 c.requires.clear3
-
 pub returns : goal.returns
-unfolding prs_of
-returns c = made_all c.loop-i.invariant (omega arith)
+unfolding prs_of zip3_of
+returns c = c.zip3.ensures (λ (v a b : Float). v ⊗ a ⊖ b ⊗ b) (λ v a b r e. search rules)

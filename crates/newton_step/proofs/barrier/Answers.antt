@@ -7,5 +7,5 @@ use Rattle.newton_step.proofs.barrier.Goals as goal
 pub returns : goal.returns
 unfolding words
 returns c =
-    barrier-left c.requires.laid (start c.args.sh c.args.s.now c.requires.room) c.args.t
+    barrier-left c.args.fit.now.laid (start c.args.fit.now.sizes c.args.s.now c.requires) c.args.t
     c.over_sum.ensures c.over_difference.ensures c.sum_of_squares.ensures c.difference_of_squares.ensures

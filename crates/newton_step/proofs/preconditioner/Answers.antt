@@ -6,4 +6,4 @@ use Rattle.newton_step.proofs.preconditioner.Goals as goal
 
 pub returns : goal.returns
 unfolding words
-returns c = preconditioner-left c.requires.laid (start c.args.sh c.args.s.now c.requires.room) c.prb.ensures c.prs.ensures
+returns c = preconditioner-left c.args.fit.now.laid (start c.args.fit.now.sizes c.args.s.now c.requires) c.prb.ensures c.prs.ensures

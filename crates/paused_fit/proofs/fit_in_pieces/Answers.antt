@@ -14,26 +14,26 @@ enough M first second = omega arith
 pub overflow_mul-st : goal.overflow_mul-st
 overflow_mul-st c =
     let g = c.args in
-    omega (arith, few g.n g.p g.x.now g.y.now g.st g.s.now g.w.now c.start_whole.result c.start_whole.ensures c.in-Ready.is)
+    omega (arith, few g.n g.p g.x.now g.y.now g.st g.s.now g.w.now c.start_whole.result c.start_whole.ensures c.in-Ok.is)
 
 pub resumed-requires : goal.resumed-requires
 resumed-requires c =
     let g = c.args in
-    many-weights g.n g.p g.x.now g.y.now g.st g.s.now g.w.now c.start_whole.result c.start_whole.ensures c.in-Ready.is
+    many-weights g.n g.p g.x.now g.y.now g.st g.s.now g.w.now c.start_whole.result c.start_whole.ensures c.in-Ok.is
 
 pub settled-requires : goal.settled-requires
 settled-requires c =
     let g = c.args in
     has_ended g.n g.p g.x.now g.y.now g.st g.s.now g.w.now c.start_whole.result c.start_whole.ensures
-    c.in-Ready.is c.resumed.result (enough g.st.max_iter g.first g.second) c.resumed.ensures
+    c.in-Ok.is c.resumed.result (enough g.st.max_iter g.first g.second) c.resumed.ensures
 
-pub returns-in-Ready : goal.returns-in-Ready
-returns-in-Ready c =
+pub returns-in-Ok : goal.returns-in-Ok
+returns-in-Ok c =
     let g = c.args in
     settles g.n g.p g.x.now g.y.now g.st g.s.now g.w.now c.start_whole.result c.start_whole.ensures
-    c.in-Ready.is c.resumed.result (enough g.st.max_iter g.first g.second) c.resumed.ensures c.settled.ensures
+    c.in-Ok.is c.resumed.result (enough g.st.max_iter g.first g.second) c.resumed.ensures c.settled.ensures
 
-pub returns-in-Refused : goal.returns-in-Refused
-returns-in-Refused c =
+pub returns-in-Err : goal.returns-in-Err
+returns-in-Err c =
     let g = c.args in
-    start-refuses g.n g.p g.x.now g.y.now g.st g.s.now g.w.now c.start_whole.result c.start_whole.ensures c.in-Refused.is c.refused.ensures
+    start-refuses g.n g.p g.x.now g.y.now g.st g.s.now g.w.now c.start_whole.result c.start_whole.ensures c.in-Err.is c.refused.ensures

@@ -1,9 +1,10 @@
 -- `prediction::check` meets its contract: each return is the first test that fails. Assumes nothing.
-use mathlib.Core.Path.{sym, ◌∙◌}
-use Rattle.refusal.proofs.Scanning.{opposed}
+use mathlib.Core.Path.{◌≡◌, sym, ◌∙◌}
+use Rattle.arrays.proofs.Scans.{opposed}
 use Rattle.refusal.proofs.Sizes.{InSize, size-good, size_of}
 use Rattle.prediction.proofs.Checks.{Lengths, bad-size, bad-length, good-sizes}
 use Rattle.prediction.proofs.check.Goals as goal
+use Rattle.prediction.proofs.check.Goals.{then-x-n-via-then-x-n, then-x-n-via-else-x-n+then-w-p, then-x-n-via-else-x-n+else-w-p+then-out-n}
 
 pub returns-then-not-in_size : goal.returns-then-not-in_size
 returns-then-not-in_size c =
@@ -13,24 +14,17 @@ returns-then-not-in_size c =
 pub returns-then-x-n : goal.returns-then-x-n
 returns-then-x-n c =
     let sized : InSize c.args.n c.args.p = size_of _ _ (sym c.in_size.ensures ∙ c.if-not-in_size.false) in
-    sym (bad-length _ _ _ _ _ _ sized (λ l. c.if-x-n.true l.matrix))
-
-pub returns-then-w-p : goal.returns-then-w-p
-returns-then-w-p c =
-    let sized : InSize c.args.n c.args.p = size_of _ _ (sym c.in_size.ensures ∙ c.if-not-in_size.false) in
-    sym (bad-length _ _ _ _ _ _ sized (λ l. c.if-w-p.true l.weights))
-
-pub returns-then-out-n : goal.returns-then-out-n
-returns-then-out-n c =
-    let sized : InSize c.args.n c.args.p = size_of _ _ (sym c.in_size.ensures ∙ c.if-not-in_size.false) in
-    sym (bad-length _ _ _ _ _ _ sized (λ l. c.if-out-n.true l.predictions))
+    sym
+    (bad-length _ _ _ _ c.args.b _ sized (λ l. elim c.then-x-n.branch [
+      | then-x-n-via-then-x-n w ↦ w.if-x-n.true l.matrix
+      | then-x-n-via-else-x-n+then-w-p w ↦ w.if-w-p.true l.weights
+      | then-x-n-via-else-x-n+else-w-p+then-out-n w ↦ w.if-out-n.true l.predictions
+    ]))
 
 pub values-requires : goal.values-requires
 values-requires c =
-    let sized : InSize c.args.n c.args.p = size_of _ _ (sym c.in_size.ensures ∙ c.if-not-in_size.false) in
-    let long : let g = c.args in Lengths g.n g.p g.x.now g.w.now g.out = record { matrix = c.if-x-n.false; weights = c.if-w-p.false; predictions = c.if-out-n.false } in
-    let z = sized in
-    record { x_len = long.matrix; w_len = long.weights; n_bound = z.rows; p_bound = z.columns }
+    let z : InSize c.args.n c.args.p = size_of _ _ (sym c.in_size.ensures ∙ c.if-not-in_size.false) in
+    record { x_len = c.if-x-n.false; w_len = c.if-w-p.false; n_bound = z.rows; p_bound = z.columns }
 
 pub returns : goal.returns
 returns c =

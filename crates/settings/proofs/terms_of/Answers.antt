@@ -2,9 +2,6 @@
 use Rattle.settings.specs.Settings.{l1_of, l2_of, terms_of}
 use Rattle.settings.proofs.terms_of.Goals as goal
 
-pub float_of-rows-requires : goal.float_of-rows-requires
-float_of-rows-requires c = c.requires
-
 pub returns : goal.returns
 unfolding l1_of l2_of terms_of
-returns c = rw (c.maximum.ensures, c.root.ensures, c.gamma-g.ensures, c.float_of-rows.ensures)
+returns c = rw (c.maximum.ensures, c.root.ensures, c.gamma-gamma.ensures, c.float_of-rows.ensures)

@@ -1,6 +1,5 @@
 use mathlib.Core.Path.{◌≡◌, refl, ◌∙◌}
 use native.Mathlib.Omega.{arith}
-use Rattle.several.proofs.Several.{few}
 use Rattle.arrays.proofs.Turns.{made_none, made_more, made_all}
 use Rattle.several.proofs.Added.{still, added-kept, added-first, added_more}
 use Rattle.several.proofs.add_products.Goals as goal
@@ -10,21 +9,6 @@ loop-j-init c = made_none _ _ _ _
 
 pub loop-k-init : goal.loop-k-init
 loop-k-init c = (omega arith, added-first _ _ _ _ _ _ _)
-
-pub overflow_mul-t : goal.overflow_mul-t
-overflow_mul-t c = omega (arith, few c.loop-k.k 3 c.args.apart c.loop-k-test.true)
-
-pub overflow_add-t-in-loop-k : goal.overflow_add-t-in-loop-k
-overflow_add-t-in-loop-k c = omega (arith, few c.loop-k.k 3 c.args.apart c.loop-k-test.true)
-
-pub overflow_add-t-in-loop-k-2 : goal.overflow_add-t-in-loop-k-2
-overflow_add-t-in-loop-k-2 c = omega (arith, few c.loop-k.k 3 c.args.apart c.loop-k-test.true)
-
-pub offset_bounds-s-r : goal.offset_bounds-s-r
-offset_bounds-s-r c = omega (arith, few c.loop-k.k 3 c.args.apart c.loop-k-test.true)
-
-pub bounds-s-r : goal.bounds-s-r
-bounds-s-r c = omega (arith, few c.loop-k.k 3 c.args.apart c.loop-k-test.true)
 
 pub loop-k-preserved : goal.loop-k-preserved
 loop-k-preserved c = (omega arith, added_more _ _ _ _ _ _ _ _ _ c.loop-k.invariant.1)

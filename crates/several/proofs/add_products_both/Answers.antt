@@ -2,7 +2,6 @@ use Prim.Native.Nat.{ℕ, ◌+◌}
 use mathlib.Core.Path.{◌≡◌, refl, ap, ◌∙◌}
 use native.Mathlib.Omega.{arith}
 use Rattle.arrays.specs.Sums.{◌!◌}
-use Rattle.several.proofs.Several.{few}
 use Rattle.arrays.proofs.Turns.{made_none, made_more, made_all}
 use Rattle.several.proofs.Added.{still, added-kept, added-first, added_more}
 use Rattle.several.proofs.add_products_both.Goals as goal
@@ -15,21 +14,6 @@ loop-k-init c =
     let at = c.loop-j in
     let e : at.j ≡ 0 + at.j = omega arith in
     (omega arith, added-first _ _ _ _ _ _ _, ap (λ (i : ℕ). at.t ! i) e ∙ added-first _ _ _ _ _ _ _)
-
-pub overflow_mul-w : goal.overflow_mul-w
-overflow_mul-w c = omega (arith, few c.loop-k.k 3 c.args.apart c.loop-k-test.true)
-
-pub overflow_add-w : goal.overflow_add-w
-overflow_add-w c = omega (arith, few c.loop-k.k 3 c.args.apart c.loop-k-test.true)
-
-pub overflow_add-w-in-loop-k : goal.overflow_add-w-in-loop-k
-overflow_add-w-in-loop-k c = omega (arith, few c.loop-k.k 3 c.args.apart c.loop-k-test.true)
-
-pub offset_bounds-s-r : goal.offset_bounds-s-r
-offset_bounds-s-r c = omega (arith, few c.loop-k.k 3 c.args.apart c.loop-k-test.true)
-
-pub bounds-s-r : goal.bounds-s-r
-bounds-s-r c = omega (arith, few c.loop-k.k 3 c.args.apart c.loop-k-test.true)
 
 pub loop-k-preserved : goal.loop-k-preserved
 loop-k-preserved c = (omega arith, added_more _ _ _ _ _ _ _ _ _ c.loop-k.invariant.1, added_more _ _ _ _ _ _ _ _ _ c.loop-k.invariant.2)

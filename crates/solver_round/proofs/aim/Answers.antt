@@ -2,8 +2,5 @@
 use Rattle.solver_round.proofs.Returns.{aim-is}
 use Rattle.solver_round.proofs.aim.Goals as goal
 
-pub phi_at-at-requires : goal.phi_at-at-requires
-phi_at-at-requires c = c.requires
-
 pub returns : goal.returns
-returns c = aim-is c.requires.laid c.args.s.now c.args.tm c.args.a c.missed-far.ensures c.phi_at-at.ensures c.dot-gdx.ensures
+returns c = aim-is c.args.fit.now.laid c.args.s.now c.args.fit.now.terms c.args.a c.missed-far.ensures c.phi_at-at.ensures c.dot-gdx.ensures

@@ -2,9 +2,6 @@
 use Rattle.solver_round.proofs.Returns.{did-turn}
 use Rattle.solver_round.proofs.turn.Goals as goal
 
-pub turn-requires : goal.turn-requires
-turn-requires c = c.requires
-
 pub shape_of-s-in-Stop : goal.shape_of-s-in-Stop
 shape_of-s-in-Stop c = c.turn.auto.s
 

@@ -4,8 +4,5 @@ use Rattle.records.specs.Record.{counts_of}
 use Rattle.stages.specs.Stage.{search_from}
 use Rattle.stages.proofs.search_begins.Goals as goal
 
-pub aim-g-requires : goal.aim-g-requires
-aim-g-requires c = c.requires
-
 pub returns : goal.returns
 returns c = ap (search_from c.args.r (counts_of c.args.d)) c.aim-g.ensures

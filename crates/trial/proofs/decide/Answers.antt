@@ -7,13 +7,13 @@ use Rattle.trial.proofs.decide.Goals as goal
 pub returns-then-accepts : goal.returns-then-accepts
 returns-then-accepts c =
     let g = c.args in
-    let v = newz_store g.sh g.tm g.m.now (vars g.sh g.s.now) in
-    accepted g.sh g.tm g.a v c.residuals.ensures c.newphi-new.ensures c.accepts.ensures c.if-accepts.true
+    let v = newz_store g.fit.now.sizes g.fit.now.terms g.fit.now.matrix.now (vars g.fit.now.sizes g.s.now) in
+    accepted g.fit.now.sizes g.fit.now.terms g.a v c.residuals.ensures c.newphi-new.ensures c.accepts.ensures c.if-accepts.true
     c.take.ensures
 
 pub returns : goal.returns
 returns c =
     let g = c.args in
-    let v = newz_store g.sh g.tm g.m.now (vars g.sh g.s.now) in
-    refused g.sh g.tm g.a v c.residuals.ensures c.newphi-new.ensures c.accepts.ensures c.if-accepts.false
+    let v = newz_store g.fit.now.sizes g.fit.now.terms g.fit.now.matrix.now (vars g.fit.now.sizes g.s.now) in
+    refused g.fit.now.sizes g.fit.now.terms g.a v c.residuals.ensures c.newphi-new.ensures c.accepts.ensures c.if-accepts.false
     c.half_step.ensures

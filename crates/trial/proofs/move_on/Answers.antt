@@ -7,5 +7,5 @@ use Rattle.trial.proofs.move_on.Goals as goal
 pub returns : goal.returns
 unfolding words
 returns c =
-    moved c.requires.laid (start c.args.sh c.args.s.now c.requires.room) c.args.step
+    moved c.args.fit.now.laid (start c.args.fit.now.sizes c.args.s.now c.requires) c.args.step
     c.add_scaled.ensures c.add_scaled-2.ensures c.faces.ensures

@@ -6,4 +6,4 @@ use Rattle.trial.proofs.take.Goals as goal
 
 pub returns : goal.returns
 unfolding words
-returns c = taken c.requires.laid (start c.args.sh c.args.s.now c.requires.room) c.copy.ensures c.copy-2.ensures c.copy-3.ensures
+returns c = taken c.args.fit.now.laid (start c.args.fit.now.sizes c.args.s.now c.requires) c.copy.ensures c.copy-2.ensures c.copy-3.ensures

@@ -10,5 +10,5 @@ pub returns-in-Refused : goal.returns-in-Refused
 returns-in-Refused c = record { says = sym (ap said c.in-Refused.is); paused = refl }
 
 -- the call was not pending
-pub returns-in-Pending : goal.returns-in-Pending
-returns-in-Pending c = absurd (c.requires (ap said c.in-Pending.is))
+pub unreachable-requires : goal.unreachable-requires
+unreachable-requires c = c.requires (ap said c.in-Pending.is)

@@ -1,25 +1,19 @@
-use mathlib.Core.Path.{refl, sym, ◌∙◌}
-use Prim.Native.Nat.{◌<◌}
-use native.Mathlib.Omega.{arith}
-use lib.ListN.{length}
-use Rattle.arrays.proofs.Scans.{scanned-none, scanned-bad, scanned-good, scanned-all}
+-- `arrays::scan::clean` meets its contract. Assumes nothing.
+use mathlib.Core.Path.{◌≡◌, refl, subst}
+use mathlib.Core.Bool.{◌&&◌}
+use lib.Ieee.Scale.{finite}
+use borrow.Author.Tests.{tests}
+use Rattle.std.proofs.Common.{rules}
+use Rattle.std.specs.Prelude.{is_none}
+use Rattle.std.proofs.lemmas.Fn.{fold_over, fronts, slice_gives}
+use Rattle.arrays.specs.Scan.{first_infinite}
+use Rattle.arrays.proofs.Scans.{clean-more}
 use Rattle.arrays.proofs.scan.clean.Goals as goal
-use Rattle.arrays.proofs.scan.clean.Goals.{then-not-finite, else-not-finite}
-
-pub loop-i-init : goal.loop-i-init
-loop-i-init c = (refl, omega arith, scanned-none _)
-
-pub loop-i-preserved : goal.loop-i-preserved
-loop-i-preserved c =
-    let e = c.finite.ensures in
-    let l : c.loop-i.i < length c.args.x.now = omega arith in (
-      refl,
-      omega arith,
-      elim c.if-not-finite.branch [
-        | then-not-finite w ↦ rw w.good-is (scanned-bad c.loop-i.invariant.2 l (sym e ∙ w.if-not-finite.true))
-        | else-not-finite w ↦ rw w.good-is (scanned-good c.loop-i.invariant.2 l (sym e ∙ w.if-not-finite.false))
-      ],
-    )
 
 pub returns : goal.returns
-returns c = scanned-all c.loop-i.invariant.2 (omega arith)
+unfolding first_infinite
+returns c =
+    subst (λ l. c.fold.result ≡ is_none (first_infinite 0 l)) c.iter.ensures.rest
+    (fold_over fronts (λ y. y.now) _ (λ l a. a ≡ is_none (first_infinite 0 l)) _
+    (λ l a x b q h k. let e : b ≡ a && finite x.now = search (rules, tests) in (rw (clean-more l x.now, ← h) e, refl))
+    c.iter.result c.iter.result.rest.now _ _ (slice_gives c.iter.result) refl c.fold.ensures.ran)

@@ -1,24 +1,14 @@
-use mathlib.Core.Path.{◌≡◌, sym, ◌∙◌}
-use native.Mathlib.Omega.{arith}
-use lib.Ieee.{nan, div, neg, of_bits}
-use Rattle.arrays.proofs.Part.{get_or-part}
-use Rattle.arrays.specs.Sums.{norm_inf_of}
-use Rattle.arrays.proofs.Folds.{fold-none, fold-turn}
+-- `arrays::sums::norm_inf` meets its contract: its closure takes the larger of what it has and a magnitude. Assumes nothing.
+use Rattle.std.proofs.Common.{rules}
+use lib.Ieee.{div, neg, of_bits}
+use Rattle.numbers.specs.Ops.{magnitude_of}
 use Rattle.numbers.specs.Order.{maximum_of}
+use Rattle.arrays.specs.Sums.{norm_inf_of}
+use Rattle.arrays.proofs.Ranges.{folds-part}
 use Rattle.arrays.proofs.sums.norm_inf.Goals as goal
 
-pub loop-i-init : goal.loop-i-init
-unfolding div neg of_bits
-loop-i-init c = (omega arith, sym (fold-none _ _ _))
-
-pub loop-i-preserved : goal.loop-i-preserved
-loop-i-preserved c =
-    let g = c.args in
-    let e = get_or-part g.x.now g.a g.n c.loop-i.i nan (omega arith) in
-    (omega arith, c.maximum-t.ensures ∙ fold-turn maximum_of _ _ c.loop-i.i c.loop-i.t _ c.loop-i.invariant.1 (rw (c.magnitude.ensures, e)))
-
 pub returns : goal.returns
-unfolding norm_inf_of
+unfolding norm_inf_of div neg of_bits
 returns c =
-    let e : c.loop-i.i ≡ c.args.n = omega arith in
-    rw e at c.loop-i.invariant.1
+    let g = c.args in
+    folds-part maximum_of magnitude_of (λ t x r f k. search rules) g.x.now g.a g.n (cc) c.requires c.fold.ensures.ran

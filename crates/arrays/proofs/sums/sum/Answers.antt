@@ -1,23 +1,13 @@
-use mathlib.Core.Path.{◌≡◌, sym}
-use native.Mathlib.Omega.{arith}
-use lib.Ieee.{nan, neg, of_bits}
-use Rattle.arrays.proofs.Part.{get_or-part}
+-- `arrays::sums::sum` meets its contract: its closure adds. Assumes nothing.
+use Rattle.std.proofs.Common.{rules}
+use lib.Ieee.{Float, neg, of_bits}
+use Rattle.numbers.specs.Ops.{◌⊕◌}
 use Rattle.arrays.specs.Sums.{sum_of}
-use Rattle.arrays.proofs.Folds.{fold-none, fold-turn}
+use Rattle.arrays.proofs.Ranges.{folds-part}
 use Rattle.arrays.proofs.sums.sum.Goals as goal
 
-pub loop-i-init : goal.loop-i-init
-unfolding neg of_bits
-loop-i-init c = (omega arith, sym (fold-none _ _ _))
-
-pub loop-i-preserved : goal.loop-i-preserved
-loop-i-preserved c =
-    let g = c.args in
-    let e = get_or-part g.x.now g.a g.n c.loop-i.i nan (omega arith) in
-    (omega arith, fold-turn _ _ _ c.loop-i.i c.loop-i.t _ c.loop-i.invariant.1 (sym e))
-
 pub returns : goal.returns
-unfolding sum_of
+unfolding sum_of neg of_bits
 returns c =
-    let e : c.loop-i.i ≡ c.args.n = omega arith in
-    rw e at c.loop-i.invariant.1
+    let g = c.args in
+    folds-part (λ (t x : Float). t ⊕ x) (λ (x : Float). x) (λ t x r f k. search rules) g.x.now g.a g.n (cc) c.requires c.fold.ensures.ran

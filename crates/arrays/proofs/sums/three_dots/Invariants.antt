@@ -1,5 +1,5 @@
--- `arrays::sums::three_dots` meets its contract. The invariant: each sum has its first i products, from -0. The measure: n - i. Assumes nothing.
-use Prim.Native.Nat.{ℕ, ◌≤◌, ◌-◌}
+-- `arrays::sums::three_dots` meets its contract. The invariant: each sum has its first i products, from -0. Assumes nothing.
+use Prim.Native.Nat.{ℕ, ◌≤◌}
 use mathlib.Core.Path.{◌≡◌}
 use mathlib.Core.List.{List}
 use lib.Ieee.{Float}
@@ -12,6 +12,3 @@ so_far x a b n i = products minus0 (λ k. part x a n ! k) (λ k. part x b n ! k)
 
 abbrev pub invariant-loop-i : goal.invariant-loop-i
 invariant-loop-i l = (l.i ≤ l.n) × (l.aa ≡ so_far l.x l.a l.a l.n l.i) × (l.bb ≡ so_far l.x l.b l.b l.n l.i) × (l.bc ≡ so_far l.x l.b l.c l.n l.i)
-
-abbrev pub decreases-loop-i : goal.decreases-loop-i
-decreases-loop-i l = l.n - l.i

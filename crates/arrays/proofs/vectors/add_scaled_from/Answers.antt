@@ -1,8 +1,7 @@
 use Prim.Native.Nat.{◌<◌}
 use mathlib.Core.Path.{refl}
 use native.Mathlib.Omega.{arith}
-use lib.Ieee.{nan}
-use Rattle.arrays.proofs.Part.{get_or-part}
+use Rattle.arrays.proofs.Ranges.{range-part, length_range}
 use Rattle.arrays.specs.Vectors.{zip_of}
 use Rattle.arrays.proofs.Turns.{made_none, made_more, kept, made_all}
 use Rattle.arrays.proofs.vectors.add_scaled_from.Goals as goal
@@ -13,10 +12,11 @@ loop-i-init c = made_none _ _ _ _
 pub loop-i-preserved : goal.loop-i-preserved
 loop-i-preserved c =
     let g = c.args in
-    let i = c.loop-i.i in
-    let h : i < g.n = omega arith in
-    made_more c.loop-i.invariant _ h (rw (kept c.loop-i.invariant g.out h (λ _ _. refl), get_or-part g.t.now g.a g.n i nan h))
+    let h : c.loop-i.i < g.n = omega (arith, length_range g.t.now g.a g.n) in
+    made_more c.loop-i.invariant _ h (rw (kept c.loop-i.invariant g.out h (λ _ _. refl), range-part))
 
 pub returns : goal.returns
 unfolding zip_of
-returns c = made_all c.loop-i.invariant (omega arith)
+returns c =
+    let g = c.args in
+    made_all c.loop-i.invariant (omega (arith, length_range g.t.now g.a g.n))

@@ -1,17 +1,10 @@
-use mathlib.Core.Path.{refl}
-use native.Mathlib.Omega.{arith}
-use Rattle.arrays.specs.Vectors.{fill_of}
-use Rattle.arrays.proofs.Turns.{made_none, made_more, made_all}
+-- `arrays::vectors::fill` meets its contract. Assumes nothing.
+use mathlib.Core.Path.{◌∙◌}
+use Rattle.arrays.proofs.Lengths.{length-fill}
+use Rattle.arrays.proofs.Ranges.{put-range, fill-range}
 use Rattle.arrays.proofs.vectors.fill.Goals as goal
 
-pub loop-i-init : goal.loop-i-init
-loop-i-init c = made_none _ _ _ _
-
-pub loop-i-preserved : goal.loop-i-preserved
-loop-i-preserved c =
-    let g = c.args in
-    made_more c.loop-i.invariant g.x (omega arith) refl
-
 pub returns : goal.returns
-unfolding fill_of
-returns c = made_all c.loop-i.invariant (omega arith)
+returns c =
+    let g = c.args in
+    put-range g.s.now g.out g.n _ (c.fill.ensures.after (λ y h. h) ∙ fill-range g.s.now g.out g.n g.x c.requires) (length-fill g.x g.n) c.requires

@@ -13,7 +13,6 @@ use Rattle.arrays.proofs.Part.{length-tab, get_or-tab, put-comm}
 use Rattle.arrays.specs.Sums.{plus0}
 use Rattle.arrays.specs.Vectors.{fill_of}
 use Rattle.arrays.proofs.Lengths.{length-fill}
-use Rattle.matrices.proofs.Lengths.{row_room}
 use Rattle.design.specs.Rows.{diagonal_at}
 use Rattle.design.proofs.Grids.{Written, written_none, written-more, written_all}
 use Rattle.design.proofs.eager.padding.Goals as goal
@@ -49,24 +48,6 @@ turn {out = out} {p} x {s} {r} w h t e =
 
 pub loop-r-init : goal.loop-r-init
 loop-r-init c = written_none _ _ _ _ _
-
-pub overflow_mul-at : goal.overflow_mul-at
-overflow_mul-at c = omega (arith, row_room _ _ c.args.p c.loop-r-test.true)
-
-pub overflow_add-at : goal.overflow_add-at
-overflow_add-at c = omega (arith, row_room _ _ c.args.p c.loop-r-test.true)
-
-pub fill-requires : goal.fill-requires
-fill-requires c = omega (arith, row_room _ _ c.args.p c.loop-r-test.true)
-
-pub overflow_add-s : goal.overflow_add-s
-overflow_add-s c = omega (arith, row_room _ _ c.args.p c.loop-r-test.true)
-
-pub offset_bounds-s-at : goal.offset_bounds-s-at
-offset_bounds-s-at c = omega (arith, row_room _ _ c.args.p c.loop-r-test.true)
-
-pub bounds-s-at : goal.bounds-s-at
-bounds-s-at c = omega (arith, row_room _ _ c.args.p c.loop-r-test.true)
 
 pub loop-r-preserved : goal.loop-r-preserved
 loop-r-preserved c = turn c.args.x c.loop-r.invariant c.loop-r-test.true _ c.fill.ensures

@@ -1,19 +1,9 @@
 use native.Mathlib.Omega.{arith}
-use Rattle.matrices.proofs.Lengths.{row_room}
 use Rattle.design.proofs.Grids.{written_none, written-more, written_all, part-below}
 use Rattle.design.proofs.eager.rows.Goals as goal
 
 pub loop-i-init : goal.loop-i-init
 loop-i-init c = written_none _ _ _ _ _
-
-pub overflow_mul-at : goal.overflow_mul-at
-overflow_mul-at c = omega (arith, row_room _ _ c.args.p c.loop-i-test.true)
-
-pub overflow_add-out : goal.overflow_add-out
-overflow_add-out c = omega (arith, row_room _ _ c.args.p c.loop-i-test.true)
-
-pub row-requires : goal.row-requires
-row-requires c = omega (arith, row_room _ _ c.args.p c.loop-i-test.true)
 
 pub loop-i-preserved : goal.loop-i-preserved
 loop-i-preserved c =

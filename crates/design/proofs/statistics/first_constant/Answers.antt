@@ -1,3 +1,4 @@
+use Rattle.std.specs.Prelude.{None, Some}
 use mathlib.Core.Path.{◌≡◌, refl, sym, ap, ◌∙◌}
 use mathlib.Core.Bool.{true, false}
 use mathlib.Core.List.{List}
@@ -8,7 +9,6 @@ use lib.Ieee.{Float, nan}
 use Rattle.arrays.specs.Part.{put, tab}
 use Rattle.arrays.proofs.Part.{length-put, get_or-put-tab}
 use Rattle.arrays.specs.Sums.{◌!◌}
-use Rattle.arrays.specs.declared.scan.Found.TheVariants.{Clean, At}
 use Rattle.design.specs.Statistics.{is_constant, constant_from}
 use Rattle.design.proofs.statistics.first_constant.Goals as goal
 
@@ -20,7 +20,7 @@ module _ (m : List Float) (n p j : ℕ) where
   left : j < p → constant_from m n p (p - j) j ≡ constant_from m n p (suc (p - (j + 1))) j
   left h = ap (λ (k : ℕ). constant_from m n p k j) (omega arith)
 
-  stops : j < p → is_constant m n p j ≡ true → constant_from m n p (p - j) j ≡ At j
+  stops : j < p → is_constant m n p j ≡ true → constant_from m n p (p - j) j ≡ Some j
   unfolding constant_from
   stops h e = left h ∙ rw (e, constant_from)
 
@@ -28,7 +28,7 @@ module _ (m : List Float) (n p j : ℕ) where
   unfolding constant_from
   goes_on h e = left h ∙ rw (e, constant_from)
 
-  ends : p ≤ j → constant_from m n p (p - j) j ≡ Clean
+  ends : p ≤ j → constant_from m n p (p - j) j ≡ None
   unfolding constant_from
   ends h =
       let e : p - j ≡ 0 = omega arith in

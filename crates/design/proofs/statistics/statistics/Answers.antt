@@ -33,9 +33,9 @@ returns-then-normalise c =
     stored g.sh g.l g.normalise g.m.now g.s.now c.requires.room centred c.moments.new.s refl
     (rw c.if-normalise.true c.moments.ensures)
 
-pub returns : goal.returns
+pub returns-else-normalise : goal.returns-else-normalise
 unfolding centres_of scales_of
-returns c =
+returns-else-normalise c =
     let g = c.args in
-    stored g.sh g.l g.normalise g.m.now g.s.now c.requires.room c.fill.new.s c.fill-2.new.s
-    (rw c.if-normalise.false c.fill.ensures) (rw c.if-normalise.false c.fill-2.ensures)
+    stored g.sh g.l g.normalise g.m.now g.s.now c.requires.room c.fill.new.s c.fill-else-normalise.new.s
+    (rw c.if-normalise.false c.fill.ensures) (rw c.if-normalise.false c.fill-else-normalise.ensures)

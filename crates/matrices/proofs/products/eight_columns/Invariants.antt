@@ -1,7 +1,6 @@
--- `matrices::products::eight_columns` meets its contract. The outer invariant: each of the eight sums has its first i terms, and the next of the first one
--- stands at `at`; the inner: the first k have one more. The measures: rows - i and 8 - k. Assumes nothing.
-use Prim.Native.Nat.{ℕ, ◌+◌, ◌-◌, ◌*◌, ◌≤◌}
-use mathlib.Core.Path.{◌≡◌}
+-- `matrices::products::eight_columns` meets its contract. The outer invariant: each of the eight sums has its first i terms; the inner: the first k have one
+-- more. Assumes nothing.
+use Prim.Native.Nat.{ℕ, ◌+◌, ◌*◌}
 use mathlib.Core.List.{List}
 use lib.Ieee.{Float}
 use Rattle.numbers.specs.Ops.{◌⊗◌}
@@ -17,11 +16,5 @@ terms m cols j xs k i = m ! (i * cols + (j + k)) ⊗ xs ! i
 abbrev pub invariant-loop-k : goal.invariant-loop-k
 invariant-loop-k l = Several 8 (terms l.m l.cols l.j (part l.s l.v l.rows)) l.i l.t l.k
 
-abbrev pub decreases-loop-k : goal.decreases-loop-k
-decreases-loop-k l = 8 - l.k
-
 abbrev pub invariant-loop-i : goal.invariant-loop-i
-invariant-loop-i l = (l.i ≤ l.rows) × (l.at ≡ l.i * l.cols + l.j) × Several 8 (terms l.m l.cols l.j (part l.s l.v l.rows)) l.i l.t 0
-
-abbrev pub decreases-loop-i : goal.decreases-loop-i
-decreases-loop-i l = l.rows - l.i
+invariant-loop-i l = Several 8 (terms l.m l.cols l.j (part l.s l.v l.rows)) l.i l.t 0

@@ -32,4 +32,4 @@ pub loop-i-preserved : goal.loop-i-preserved
 loop-i-preserved c = turn c.loop-i.invariant c.of_bits.result (omega arith) c.of_bits.ensures
 
 pub returns : goal.returns
-returns c = ended c.loop-i.invariant c.loop-i-test.false
+returns c = ended c.loop-i.invariant (omega (arith, c.requires, c.loop-i.invariant.long))

@@ -1,43 +1,28 @@
-use Rattle.std.proofs.Common.{◌≡◌, ℕ, zero, suc, ◌+◌, ◌<◌, ◌≤◌, List, [], ◌∷◌, length, get_or, sym, ap, refl, ◌∙◌, add-one, arith, take_all, take-suc}
-use mathlib.Core.List.{map-append}
-use lib.Ieee.{Float, binary64, to_bits, nan}
-use Rattle.stored.specs.Stored.{bits_of}
-use Rattle.stored.proofs.bits.same.Invariants.{Sames}
+-- `stored::bits::same` meets its contract: it tests each pair of a number and a word. Assumes nothing.
+use Rattle.std.proofs.Common.{◌≡◌, ℕ, Bool, true, false, ◌&&◌, eqb, List, [], ◌∷◌, length, sym, subst, refl, arith, rules, tests, eq-eqb, ◌∙◌}
+use Rattle.std.proofs.lemmas.Bool.{eqb-true, false≢true}
+use Rattle.std.specs.List.{list_all, zip}
+use Rattle.std.proofs.lemmas.Iterator.{YieldsList-from_zip, YieldsList-from_slice}
+use Rattle.std.proofs.lemmas.Iterator.Search.{all_from_yields_List}
+use lib.Ieee.{Float, binary64, to_bits}
+use Rattle.stored.specs.Stored.{bits_of, Says}
 use Rattle.stored.proofs.bits.same.Goals as goal
 
-module _ {x : List Float} {w : List ℕ} (e : length x ≡ length w) {i : ℕ} (d : Sames x w i) where
-  turn : i < length x → to_bits binary64 (get_or x i nan) ≡ get_or w i 0 → Sames x w (i + 1)
-  unfolding bits_of
-  turn h f =
-      let here : i < length w = omega arith in
-      record { upto = omega arith; is = rw (add-one i, take-suc x i nan h, take-suc w i 0 here, map-append, d.is, f) }
+both : (b r : Bool) (a v : ℕ) (xs w : List ℕ) → eqb a v ≡ b → Says r (xs ≡ w) → Says (b && r) (a ∷ xs ≡ v ∷ w)
+both true true a v xs w e h = let head : a ≡ v = eqb-true a v e in cc
+both true false a v xs w e h = λ (f : a ∷ xs ≡ v ∷ w). h cc
+both false r a v xs w e h = λ (f : a ∷ xs ≡ v ∷ w). let head : a ≡ v = cc in absurd (false≢true (sym e ∙ eq-eqb a v head))
 
-  ended : length x ≤ i → bits_of x ≡ w
-  ended h =
-      let size : length w ≤ i = omega arith in
-      rw (take_all i x h, take_all i w size) at d.is
-
-bits_at : (x : List Float) (i : ℕ) → i < length x → get_or (bits_of x) i 0 ≡ to_bits binary64 (get_or x i nan)
+says : (x : List Float) (w : List ℕ) → length x ≡ length w → Says (list_all (λ p. eqb (to_bits binary64 p.0) p.1) (zip x w)) (bits_of x ≡ w)
 unfolding bits_of
-bits_at [] i h = let z : ⊥ = omega arith in elim z [ ]
-bits_at (y ∷ x) zero h = refl
-bits_at (y ∷ x) (suc i) h = bits_at x i (omega arith)
-
-begun : (x : List Float) (w : List ℕ) → Sames x w 0
-unfolding bits_of
-begun x w = record { upto = omega arith; is = refl }
-
-pub loop-i-init : goal.loop-i-init
-loop-i-init c = begun _ _
-
-pub returns-then-bits_of-w : goal.returns-then-bits_of-w
-returns-then-bits_of-w c e =
-    let a = c.args in
-    let at = bits_at a.x.now c.loop-i.i (omega arith) in
-    c.if-bits_of-w.true (c.bits_of.ensures ∙ sym at ∙ ap (λ l. get_or l c.loop-i.i 0) e)
-
-pub loop-i-preserved : goal.loop-i-preserved
-loop-i-preserved c = turn c.requires c.loop-i.invariant (omega arith) (sym c.bits_of.ensures ∙ c.if-bits_of-w.false)
+says [] [] e = refl
+says [] (v ∷ w) e = absurd (omega arith)
+says (a ∷ x) [] e = absurd (omega arith)
+says (a ∷ x) (v ∷ w) e = both (eqb (to_bits binary64 a) v) (list_all (λ p. eqb (to_bits binary64 p.0) p.1) (zip x w)) (to_bits binary64 a) v (bits_of x) w refl (says x w (omega arith))
 
 pub returns : goal.returns
-returns c = ended c.requires c.loop-i.invariant c.loop-i-test.false
+returns c =
+    let x = c.args.x.now in
+    let w = c.args.w.now in
+    let answer = all_from_yields_List (λ p. eqb (to_bits binary64 p.0) p.1) c.all.new.self _ c.all.result c.all.ensures.ran (YieldsList-from_zip (YieldsList-from_slice x cc) (YieldsList-from_slice w cc)) (λ y b q k. search (rules, tests)) in
+    subst (λ b. Says b (bits_of x ≡ w)) (sym answer) (says x w c.requires)

@@ -1,8 +1,0 @@
--- `c_answers::predicted` meets its contract. Assumes nothing.
-use Rattle.c_answers.proofs.predicted.Goals as goal
-
-pub returns-in-Done : goal.returns-in-Done
-returns-in-Done c = rw c.in-Done.is
-
-pub returns-in-Refused : goal.returns-in-Refused
-returns-in-Refused c = rw c.in-Refused.is c.refused.ensures
