@@ -35,8 +35,6 @@ use Rattle.lasso_optimizer.specs.Fit.{parts, fresh}
 use Rattle.records.specs.declared.Counts.{Counts}
 use Rattle.records.specs.declared.Paused.{Paused}
 use Rattle.records.specs.declared.Stage.TheVariants.{Opening}
-use Rattle.stages.specs.declared.How.{How}
-use Rattle.stages.specs.declared.How.TheVariants.{Done, Failed}
 use Rattle.stages.specs.declared.Stepped.{Stepped}
 use Rattle.stages.specs.declared.Stepped.TheVariants.{Going, Over}
 use Rattle.records.specs.Record.{counts_back, paused_of, paused_at, state_of}
@@ -53,7 +51,7 @@ use Rattle.elastic_net.specs.ElasticNet.{Outcome, outcome, start_outcome, end_ou
 -- ---- the steps of a call
 
 module _ (F : Parts Failure Data) (M : ℕ) (a : Paused) (b : ℕ) (sh : Sizes) (s : List Float) where
-  pub stops : {l : Places} → spent_at M a ≡ true → Room sh l s → Did sh (rest sh s) (call F M b (state_of a (vars sh s))) (Over (Done Limit) a.counts) s
+  pub stops : {l : Places} → spent_at M a ≡ true → Room sh l s → Did sh (rest sh s) (call F M b (state_of a (vars sh s))) (Over (Ok Limit) a.counts) s
   unfolding answer left_data how_of words
   stops o h = rw (spent-over M a F o b (vars sh s)) (record { is = refl; left = start sh s h.room })
 
@@ -63,16 +61,16 @@ module _ (F : Parts Failure Data) (M : ℕ) (a : Paused) (b : ℕ) (sh : Sizes) 
 
 -- ---- an end
 
-module _ (sh : Sizes) (normalise : Bool) (gamma : Float) (ys s : List Float) {h : How} (c : Counts) {b : Float} {r : Paused} {s' : List Float}
+module _ (sh : Sizes) (normalise : Bool) (gamma : Float) (ys s : List Float) {h : Result Way Failure} (c : Counts) {b : Float} {r : Paused} {s' : List Float}
     (qb : b ≡ intercept_of sh normalise gamma ys (vars sh s)) (qr : r ≡ ended_of c) (qs : s' ≡ gone sh (rest sh s)) where
-  pub is-done : {w : List Float} {way : Way} → w ≡ weights_of sh normalise gamma (vars sh s) → h ≡ Done way
+  pub is-done : {w : List Float} {way : Way} → w ≡ weights_of sh normalise gamma (vars sh s) → h ≡ Ok way
       → outcome (record { answer = DoneA b way c; paused = r }) w s' ≡ end_outcome sh normalise gamma ys (rest sh s) h c (vars sh s)
   unfolding end_outcome
   is-done qw e = rw (e, qb, qr, qs, qw)
 
   -- the weights w are overwritten by +0
   pub fails : (w : List Float) {w' : List Float} {x : Failure} {f : Refusal} → length w ≡ sh.p → w' ≡ put w 0 (fill_of plus0 sh.p)
-      → h ≡ Failed x → f ≡ refused_by x → outcome (record { answer = RefusedA f; paused = r }) w' s' ≡ end_outcome sh normalise gamma ys (rest sh s) h c (vars sh s)
+      → h ≡ Err x → f ≡ refused_by x → outcome (record { answer = RefusedA f; paused = r }) w' s' ≡ end_outcome sh normalise gamma ys (rest sh s) h c (vars sh s)
   unfolding end_outcome
   fails w l qw e qf =
       let z = qw ∙ put_all w (fill_of plus0 sh.p) (length-fill plus0 sh.p ∙ sym l) in
@@ -92,7 +90,7 @@ module _ {sh : Sizes} (normalise : Bool) (gamma : Float) (ys : List Float) {e : 
       let i : a ≡ paused_of x = cc k.is in
       rw (i, flat-of sh k.left)
 
-  end-shown : (o : Progress (End Failure Data) (State Data)) {k : Stepped} {m : List Float} → Did sh e o k m → (h : How) (c : Counts) → k ≡ Over h c
+  end-shown : (o : Progress (End Failure Data) (State Data)) {k : Stepped} {m : List Float} → Did sh e o k m → (h : Result Way Failure) (c : Counts) → k ≡ Over h c
       → end_outcome sh normalise gamma ys (rest sh m) h c (vars sh m) ≡ shown sh normalise gamma ys e w o
   unfolding shown answer left_data ending
   end-shown (going x) k h c q =
@@ -117,7 +115,7 @@ module _ (n p : ℕ) (x y : List Float) (st : Settings) (a : Paused) (s w : List
       → outcome (record { answer = PendingA; paused = r }) w s₂ ≡ carried n p x y st a s w b
   paused q e k = rw (← qs, ← qt, e, k) (pending-shown st.normalise tm.gamma y w _ d _ q)
 
-  pub ends : (r : Resumed) {h : How} {c : Counts} {w' s' : List Float} → o ≡ Over h c
+  pub ends : (r : Resumed) {h : Result Way Failure} {c : Counts} {w' s' : List Float} → o ≡ Over h c
       → outcome r w' s' ≡ end_outcome sh st.normalise tm.gamma y (rest sh s₁) h c (vars sh s₁)
       → outcome r w' s' ≡ carried n p x y st a s w b
   ends r q k = rw (← qs, ← qt) (k ∙ end-shown st.normalise tm.gamma y w _ d _ _ q)

@@ -21,8 +21,6 @@ use Rattle.lasso_optimizer.specs.Fit.{parts, fresh}
 use Rattle.records.specs.declared.Counts.{Counts}
 use Rattle.records.specs.declared.Paused.{Paused}
 use Rattle.records.specs.declared.Stage.TheVariants.{Opening}
-use Rattle.stages.specs.declared.How.{How}
-use Rattle.stages.specs.declared.How.TheVariants.{Done, Failed}
 use Rattle.records.specs.Record.{counts_back, state_of, paused_of, paused_at}
 use Rattle.stages.specs.Stage.{how_of}
 use Rattle.checks.specs.Checks.{limits_of, start_values}
@@ -63,18 +61,18 @@ outcome r w s = record { answer = said r.answer; paused = r.paused; weights = w;
 -- ---- a resuming call
 
 -- a fit that failed answers as a refusal
-abbrev pub end_answer : How → Float → Counts → Said
-end_answer (Done w) b c = done_as w b c
-end_answer (Failed f) b c = refused (number_of (refused_by f)) (place_of (refused_by f))
+abbrev pub end_answer : Result Way Failure → Float → Counts → Said
+end_answer (Ok w) b c = done_as w b c
+end_answer (Err f) b c = refused (number_of (refused_by f)) (place_of (refused_by f))
 
 -- a fit that is refused has no weights: they are +0
-abbrev pub end_weights : How → ℕ → List Float → List Float
-end_weights (Done w) p ws = ws
-end_weights (Failed f) p ws = fill_of plus0 p
+abbrev pub end_weights : Result Way Failure → ℕ → List Float → List Float
+end_weights (Ok w) p ws = ws
+end_weights (Err f) p ws = fill_of plus0 p
 
 module _ (sh : Sizes) (normalise : Bool) (gamma : Float) (ys : List Float) where
   -- e is the scratch's excess
-  unfoldable pub end_outcome : List Float → How → Counts → Store → Outcome
+  unfoldable pub end_outcome : List Float → Result Way Failure → Counts → Store → Outcome
   end_outcome e h c v = record {
     answer = end_answer h (intercept_of sh normalise gamma ys v) c;
     paused = ended_of c;

@@ -19,9 +19,9 @@ use checks::{limits, start_values};
 use ending::{solution, wipe};
 use layout::fit::Fit;
 use records::{Counts, Paused, clean, ended, first, possible, spent};
-use refusal::{Refusal, Way};
+use refusal::{Failure, Refusal, Way};
 use settings::Settings;
-use stages::{How, Stepped};
+use stages::Stepped;
 use steps::run_steps;
 
 // What a resuming call answers. Done carries the intercept, how the fit ended, and the counts; the weights are in the lent slice.
@@ -47,7 +47,7 @@ fn go(fit: &Fit, s: &mut [f64], rec: Paused, budget: u64) -> Stepped
         (state_of rec (vars f.sizes s.old))) result s.new }
 {
     if spent(fit.limit, rec) {
-        return Stepped::Over(How::Done(Way::Limit), rec.counts);
+        return Stepped::Over(Ok(Way::Limit), rec.counts);
     }
     run_steps(fit, s, rec, budget)
 }
@@ -65,7 +65,14 @@ fn tidy(fit: &Fit, s: &mut [f64], budget: u64)
 }
 
 // The end of a fit: the weights, +0 in the needed scratch, and the answer. The weights of a fit that failed are +0.
-fn finish(fit: &Fit, s: &mut [f64], y: &[f64], w: &mut [f64], how: How, c: Counts) -> Resumed
+fn finish(
+    fit: &Fit,
+    s: &mut [f64],
+    y: &[f64],
+    w: &mut [f64],
+    how: Result<Way, Failure>,
+    c: Counts,
+) -> Resumed
     requires room { HasRoom fit.now.sizes s.old }
     requires targets { length y.now ≡ fit.now.sizes.n }
     requires weights { length w.old ≡ fit.now.sizes.p }
@@ -76,11 +83,11 @@ fn finish(fit: &Fit, s: &mut [f64], y: &[f64], w: &mut [f64], how: How, c: Count
     let b = solution(fit, s, y, w);
     wipe(fit, s);
     match how {
-        How::Done(way) => Resumed {
+        Ok(way) => Resumed {
             answer: Answer::Done(b, way, c),
             paused: e,
         },
-        How::Failed(f) => {
+        Err(f) => {
             fill(w, 0, fit.sizes.p, 0.0);
             Resumed {
                 answer: Answer::Refused(Refusal::from(f)),

@@ -1,4 +1,5 @@
 -- From what a part did to what the step does: a lemma for each return of the code. Assumes nothing.
+use Rattle.std.specs.Prelude.{Err, Ok}
 use Prim.Native.Nat.{ℕ, ◌+◌, ◌<◌, ◌≤◌}
 use borrow.Author.Tests.{lt-ltb, le-ltb}
 use mathlib.Core.Path.{◌≡◌, refl, ap, ◌∙◌}
@@ -30,7 +31,6 @@ use Rattle.lasso_optimizer.specs.Solving.{turns, aim, aim_by}
 use Rattle.lasso_optimizer.specs.Trial.{tries}
 use Rattle.lasso_optimizer.specs.Fit.{parts, opened_res, opened_data, DidOpen, turned_res, turned_data, DidTurn, tried_res, tried_data, DidTry}
 use Rattle.records.specs.declared.Stage.TheVariants.{Opening, Solving, Searching}
-use Rattle.stages.specs.declared.How.TheVariants.{Done as DoneH, Failed as FailedH}
 use Rattle.stages.specs.declared.Stepped.{Stepped}
 use Rattle.stages.specs.declared.Stepped.TheVariants.{Going, Over}
 use Rattle.records.specs.Record.{paused_at, counts_back, paused_of}
@@ -43,16 +43,16 @@ told d q = record { is = q ∙ d.is; left = d.left }
 -- what the code answers to each variant
 abbrev code_opened : ℕ → Counts → OpenedE → Stepped
 code_opened r c (Ready w) = Going (paused_at (Solving 1) r c w)
-code_opened r c Done = Over (DoneH Converged) (counts_back c)
-code_opened r c (Failed x) = Over (FailedH x) (counts_back c)
+code_opened r c Done = Over (Ok Converged) (counts_back c)
+code_opened r c (Failed x) = Over (Err x) (counts_back c)
 
 abbrev code_turned : Bool → ℕ → ℕ → Counts → (Scalars → Scalars) → TurnedE → Stepped
 code_turned b r k c g (More w) = cond b (Going (paused_at (Solving (k + 1)) r c w)) (search_from r c (g w))
 code_turned b r k c g (Stop w) = search_from r c (g w)
 
 abbrev code_tried : Bool → Bool → ℕ → ℕ → Counts → TriedE → Stepped
-code_tried b b' r j c (Accept w) = cond b (Going (paused_at Opening (r + 1) c w)) (Over (DoneH Limit) (counts_back c))
-code_tried b b' r j c (Halve w) = cond b' (Going (paused_at (Searching (j + 1)) r c w)) (Over (FailedH Search) (counts_back c))
+code_tried b b' r j c (Accept w) = cond b (Going (paused_at Opening (r + 1) c w)) (Over (Ok Limit) (counts_back c))
+code_tried b b' r j c (Halve w) = cond b' (Going (paused_at (Searching (j + 1)) r c w)) (Over (Err Search) (counts_back c))
 
 module _ (sh : Sizes) (tm : Terms) (tol : Float) (x : List Float) (r : ℕ) (c : Counts) (e m : List Float) where
   after-opened : (q : Opened Failure Data) (o : OpenedE) → DidOpen sh e q o m → Did sh e (after_opening r c q) (code_opened r c o) m
@@ -87,10 +87,10 @@ module _ (sh : Sizes) (tm : Terms) (tol : Float) (x : List Float) (M r : ℕ) (c
     pub opening-ready : {w : Scalars} → o ≡ Ready w → Did sh e (step (parts sh tm tol x) M (opening r c (held a v))) (Going (paused_at (Solving 1) r (round+ c) w)) m
     opening-ready q = told opening-by (rw q)
 
-    pub opening-done : o ≡ Done → Did sh e (step (parts sh tm tol x) M (opening r c (held a v))) (Over (DoneH Converged) (counts_back (round+ c))) m
+    pub opening-done : o ≡ Done → Did sh e (step (parts sh tm tol x) M (opening r c (held a v))) (Over (Ok Converged) (counts_back (round+ c))) m
     opening-done q = told opening-by (rw q)
 
-    pub opening-fails : {y : Failure} → o ≡ Failed y → Did sh e (step (parts sh tm tol x) M (opening r c (held a v))) (Over (FailedH y) (counts_back (round+ c))) m
+    pub opening-fails : {y : Failure} → o ≡ Failed y → Did sh e (step (parts sh tm tol x) M (opening r c (held a v))) (Over (Err y) (counts_back (round+ c))) m
     opening-fails q = told opening-by (rw q)
 
   module _ (k : ℕ) {o : TurnedE} (d : DidTurn sh e (turns sh k (held a v)) o m) where
@@ -122,7 +122,7 @@ module _ (sh : Sizes) (tm : Terms) (tol : Float) (x : List Float) (M r : ℕ) (c
     searching-again q z h = told (searching-by (ltb (r + 1) M) true refl (lt-ltb (j + 1) 100 h)) (rw (z, q))
 
     pub searching-none : {w : Scalars} → o ≡ Halve w → 100 ≤ j + 1 →
-        Did sh e (step (parts sh tm tol x) M (searching r j c (held a v))) (Over (FailedH Search) (counts_back (trial+ c))) m
+        Did sh e (step (parts sh tm tol x) M (searching r j c (held a v))) (Over (Err Search) (counts_back (trial+ c))) m
     searching-none q h = told (searching-by (ltb (r + 1) M) false refl (le-ltb (j + 1) 100 h)) (rw q)
 
     pub searching-next : {w : Scalars} → o ≡ Accept w → r + 1 < M →
@@ -130,5 +130,5 @@ module _ (sh : Sizes) (tm : Terms) (tol : Float) (x : List Float) (M r : ℕ) (c
     searching-next q h = told (searching-by true (ltb (j + 1) 100) (lt-ltb (r + 1) M h) refl) (rw q)
 
     pub searching-limit : {w : Scalars} → o ≡ Accept w → M ≤ r + 1 →
-        Did sh e (step (parts sh tm tol x) M (searching r j c (held a v))) (Over (DoneH Limit) (counts_back (trial+ c))) m
+        Did sh e (step (parts sh tm tol x) M (searching r j c (held a v))) (Over (Ok Limit) (counts_back (trial+ c))) m
     searching-limit q h = told (searching-by false (ltb (j + 1) 100) (le-ltb (r + 1) M h) refl) (rw q)

@@ -1,5 +1,6 @@
 -- What a step answers and leaves, of the state that the machine's step leads to. Definitions only.
-use Rattle.std.specs.Prelude.{ℕ, ◌≡◌, List, Float}
+use Rattle.refusal.specs.declared.Way.{Way}
+use Rattle.std.specs.Prelude.{ℕ, ◌≡◌, List, Float, Err, Ok, Result}
 use Rattle.refusal.specs.declared.Failure.{Failure}
 use Rattle.refusal.specs.declared.Way.TheVariants.{Converged, Limit}
 use Rattle.layout.specs.declared.Sizes.{Sizes}
@@ -15,15 +16,13 @@ use Rattle.lasso_optimizer.specs.declared.Tried.TheVariants.{Accept, Halve}
 use Rattle.lasso_optimizer.specs.Data.{Data, store_of}
 use Rattle.records.specs.declared.Stage.TheVariants.{Searching}
 use Rattle.records.specs.Record.{counts_back, paused_at, paused_of}
-use Rattle.stages.specs.declared.How.{How as HowE}
-use Rattle.stages.specs.declared.How.TheVariants.{Done, Failed}
 use Rattle.stages.specs.declared.Stepped.{Stepped}
 use Rattle.stages.specs.declared.Stepped.TheVariants.{Going, Over}
 
-unfoldable pub how_of : How Failure → HowE
-how_of converged = Done Converged
-how_of limit = Done Limit
-how_of (failed x) = Failed x
+unfoldable pub how_of : How Failure → Result Way Failure
+how_of converged = Ok Converged
+how_of limit = Ok Limit
+how_of (failed x) = Err x
 
 -- what a step answers, and the data that it leaves
 unfoldable pub answer : Progress (End Failure Data) (State Data) → Stepped

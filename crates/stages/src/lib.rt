@@ -19,17 +19,11 @@ use refusal::{Failure, Way};
 use solver_round::{aim, turn};
 use trial::attempt;
 
-// How a fit ends.
-#[derive(Clone, Copy)]
-pub enum How {
-    Done(Way),
-    Failed(Failure),
-}
-
+// A step: the fit goes on, or it is over, done in one way or failed.
 #[derive(Clone, Copy)]
 pub enum Stepped {
     Going(Paused),
-    Over(How, Counts),
+    Over(Result<Way, Failure>, Counts),
 }
 
 // The scalars that a solver round leaves, whether it stops or not.
@@ -73,8 +67,8 @@ pub fn opening_step(fit: &Fit, s: &mut [f64], r: u64, c: Counts, a: Scalars, kno
             counts: d,
             scalars: w,
         }),
-        Opened::Done => Stepped::Over(How::Done(Way::Converged), d),
-        Opened::Failed(f) => Stepped::Over(How::Failed(f), d),
+        Opened::Done => Stepped::Over(Ok(Way::Converged), d),
+        Opened::Failed(f) => Stepped::Over(Err(f), d),
     }
 }
 
@@ -144,7 +138,7 @@ pub fn searching_step(fit: &Fit, s: &mut [f64], r: u64, j: u64, c: Counts, a: Sc
                 scalars: halved,
             });
         }
-        return Stepped::Over(How::Failed(Failure::Search), d);
+        return Stepped::Over(Err(Failure::Search), d);
     };
     if r + 1 < fit.limit {
         return Stepped::Going(Paused {
@@ -154,5 +148,5 @@ pub fn searching_step(fit: &Fit, s: &mut [f64], r: u64, j: u64, c: Counts, a: Sc
             scalars: next,
         });
     }
-    Stepped::Over(How::Done(Way::Limit), d)
+    Stepped::Over(Ok(Way::Limit), d)
 }

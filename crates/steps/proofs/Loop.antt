@@ -1,4 +1,6 @@
 -- What the loop over a budget keeps. Assumes nothing.
+use Rattle.refusal.specs.declared.Way.{Way}
+use Rattle.std.specs.Prelude.{Result}
 use Prim.Native.Nat.{ℕ, zero, suc, ◌-◌, ◌<◌, ◌≤◌}
 use native.Mathlib.Omega.{arith}
 use mathlib.Core.Path.{◌≡◌, refl, ap, sym, ◌∙◌}
@@ -21,7 +23,6 @@ use Rattle.lasso_optimizer.specs.Data.{Data, held, store_of}
 use Rattle.lasso_optimizer.specs.Fit.{parts}
 use Rattle.records.specs.declared.Paused.{Paused}
 use Rattle.records.specs.declared.Counts.{Counts as CountsE}
-use Rattle.stages.specs.declared.How.{How}
 use Rattle.records.specs.declared.Stage.{Stage}
 use Rattle.records.specs.declared.Stage.TheVariants.{Opening, Solving, Searching, Ended}
 use Rattle.stages.specs.declared.Stepped.{Stepped}
@@ -35,7 +36,7 @@ use Rattle.steps.proofs.Known.{KnownAfter, step-known}
 sub-one : (n : ℕ) → suc n - 1 ≡ n
 sub-one n = omega arith
 
-going-not-over : {a : Paused} {w : How} {c : CountsE} → Going a ≡ Over w c → ⊥
+going-not-over : {a : Paused} {w : Result Way Failure} {c : CountsE} → Going a ≡ Over w c → ⊥
 going-not-over q = let z : ◌≡◌ {A = ℕ} 0 1 = cc in omega arith
 
 not-over : (x : End Failure Data) (a : Paused) → Going a ≡ answer (over x) → ⊥
@@ -123,7 +124,7 @@ module _ (sh : Sizes) (tm : Terms) (tol : Float) (x : List Float) (M : ℕ) wher
               newz = rw (p, vars-of sh k, t) known;
             }
 
-    pub stopped : (left : ℕ) {b : Bool} (cur : Paused) (m m' : List Float) → 0 < left → Running left b cur m → {o : Stepped} {w : How} {c : CountsE} → o ≡ Over w c →
+    pub stopped : (left : ℕ) {b : Bool} (cur : Paused) (m m' : List Float) → 0 < left → Running left b cur m → {o : Stepped} {w : Result Way Failure} {c : CountsE} → o ≡ Over w c →
         Did sh (rest sh m) (step (parts sh tm tol x) M (state_of cur (vars sh m))) o m' → Did sh (rest sh m₀) whole o m'
     unfolding answer
     stopped left cur m m' h g {o} q d = go (one (state_of cur (vars sh m))) refl

@@ -3,17 +3,17 @@ use mathlib.Core.Path.{◌∙◌}
 use Rattle.elastic_net.proofs.Ends.{is-done, fails}
 use Rattle.elastic_net.proofs.finish.Goals as goal
 
-pub returns-in-Done : goal.returns-in-Done
-returns-in-Done c =
+pub returns-in-Ok : goal.returns-in-Ok
+returns-in-Ok c =
     let g = c.args in
     is-done g.fit.now.sizes g.fit.now.normalise g.fit.now.terms.gamma g.y.now g.s.now g.c c.solution-b.ensures.intercept_is
-    c.ended-e.ensures c.wipe.ensures c.solution-b.ensures.weights_are c.in-Done.is
+    c.ended-e.ensures c.wipe.ensures c.solution-b.ensures.weights_are c.in-Ok.is
 
-pub returns-in-Failed : goal.returns-in-Failed
-returns-in-Failed c =
+pub returns-in-Err : goal.returns-in-Err
+returns-in-Err c =
     let g = c.args in
     fails g.fit.now.sizes g.fit.now.normalise g.fit.now.terms.gamma g.y.now g.s.now g.c c.solution-b.ensures.intercept_is
     c.ended-e.ensures c.wipe.ensures
     c.solution-b.new.w
     (c.solution-b.auto.w ∙ c.requires.weights)
-    c.fill.ensures c.in-Failed.is c.from.ensures
+    c.fill.ensures c.in-Err.is c.from.ensures
