@@ -2,14 +2,10 @@
 use Rattle.std.specs.Prelude.{Result, ⊤, Ok, Err}
 use mathlib.Core.Path.{◌≡◌, refl}
 use mathlib.Core.Bool.{Bool, true, false}
-use mathlib.Core.List.{List}
 use Prim.Native.Nat.{ℕ, zero, suc, ◌+◌, ◌-◌, ◌≤◌, ◌<◌}
 use native.Mathlib.Omega.{arith}
-use lib.ListN.{length}
 use Rattle.refusal.specs.declared.Refusal.{Refusal}
-use Rattle.sheet_header.specs.Header.{n_of, p_of, row_at}
-use Rattle.sheet_header.proofs.Passed.{Laid}
-use Rattle.sheet.specs.Rows.{ahead, claims_fine, above, rises, pairs_from}
+use Rattle.sheet.specs.Rows.{ahead, claims_fine, rises, pairs_from}
 
 module _ (s t w : ℕ → ℕ) where
   row_first : (left i : ℕ) (q u : Bool) → claims_fine (s i) (t i) (w i) ≡ q → rises s t i ≡ u
@@ -37,12 +33,6 @@ module _ (s t w : ℕ → ℕ) where
   none_left n i h =
       let e : n - i ≡ 0 = omega arith in
       rw e
-
-pub rises-above : (s t : ℕ → ℕ) (i : ℕ) → (i ≡ 0 → ⊥) → rises s t i ≡ above (s (i - 1)) (t (i - 1)) (s i) (t i)
-rises-above s t zero h = absurd (h refl)
-rises-above s t (suc i) h =
-    let e : suc i - 1 ≡ i = omega arith in
-    rw e
 
 -- rows that have the same claims and scores
 pub same-pairs : {s t w s' t' w' : ℕ → ℕ} (n : ℕ) → ((i : ℕ) → i < n → (s i ≡ s' i) × (t i ≡ t' i) × (w i ≡ w' i))
