@@ -6,7 +6,7 @@ use native.Mathlib.Numerals.{add-one}
 use native.Mathlib.Omega.{arith}
 use borrow.Rule.Slice.PartMut.{put_mid}
 use lib.ListN.{length, get_or, take, drop, replicate, length-append, get_or-append}
-use lib.Seq.{paste, sets-eq, drop-drop, get_or-append-add}
+use lib.Seq.{sets-eq, drop-drop, get_or-append-add}
 use lib.Ieee.{Float, nan}
 use denote.Param.Members.{Mut}
 use denote.Ref.{Bor}
@@ -47,15 +47,6 @@ module _ {A : Type 0} where
       let k : a + n - a ≡ length xs = omega arith in
       let l : a + length xs ≤ length s = omega arith in
       rw (same, k, sets-eq xs s a l, drop-drop (length xs) a s) (sym (append_assoc (take a s) xs (drop (a + length xs) s)))
-
-  -- `copy_within`
-  pub paste-part : (s : List A) (a n out : ℕ) → a + n ≤ length s → out + n ≤ length s → paste s out (drop a s) (a + n - a) ≡ put s out (part s a n)
-  unfolding put part
-  paste-part s a n out h k =
-      let e : a + n - a ≡ n = omega arith in
-      let m : length (take n (drop a s)) ≡ n = length_part s a n h in
-      let l : out + length (take n (drop a s)) ≤ length s = omega arith in
-      rw (e, sets-eq (take n (drop a s)) s out l, m)
 
 replicate-fill : (n : ℕ) (x : Float) → replicate n x ≡ fill_of x n
 unfolding fill_of tab

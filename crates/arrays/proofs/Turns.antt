@@ -11,7 +11,7 @@ use lib.Ieee.{Float, nan}
 use Rattle.numbers.specs.Ops.{◌⊕◌, ◌⊗◌}
 use Rattle.arrays.specs.Part.{part, put, tab}
 use Rattle.arrays.proofs.Part.{length-tab, length-put, get_or-part, put-tab-none, put-tab-more, put-put-same}
-use Rattle.arrays.proofs.Part.{part-put-apart, get_or-put-above, get_or-put-below, apart_of, apart-fewer, put_all}
+use Rattle.arrays.proofs.Part.{part-put-apart, get_or-put-above, get_or-put-below, apart_of, apart-fewer, length_part, tab-all, put_all}
 use Rattle.arrays.specs.Sums.{◌!◌, products}
 use Rattle.arrays.proofs.Folds.{fold-turn}
 use Rattle.arrays.specs.Vectors.{Clear}
@@ -99,3 +99,8 @@ pub products-more : (start : Float) (x : List Float) (a : ℕ) (y : List Float) 
     → t ≡ products start (λ k. part x a n ! k) (λ k. part y b n ! k) i
     → t ⊕ x ! (a + i) ⊗ y ! (b + i) ≡ products start (λ k. part x a n ! k) (λ k. part y b n ! k) (i + 1)
 products-more start x a y b n i t h e = fold-turn _ start _ i t _ e (rw (get_or-part x a n i nan h, get_or-part y b n i nan h))
+
+-- the end of a loop that copies
+pub made-copy : {s₀ : List Float} {out n : ℕ} {s : List Float} {i : ℕ} (t : List Float) (a : ℕ) → Made s₀ out n (λ k. part t a n ! k) s i → n ≤ i
+    → a + n ≤ length t → s ≡ put s₀ out (part t a n)
+made-copy {n = n} t a m h l = rw (tab-all (part t a n) n nan (length_part t a n l)) at (made_all m h)

@@ -19,14 +19,17 @@ pub fn copy_from(s: &mut [f64], out: usize, t: &[f64], a: usize, n: usize)
     requires n_in_bounds_2 { a + n ≤ length t.now }
     ensures { s.new ≡ put s.old out (part t.now a n) }
 {
-    s[out..out + n].copy_from_slice(&t[a..a + n]);
+    // The library's copies call memmove, which the archives for C would need from outside.
+    for (i, v) in t[a..a + n].iter().enumerate() {
+        s[out + i] = *v;
+    }
 }
 
 pub fn copy(s: &mut [f64], out: usize, a: usize, n: usize)
     requires { One s.old out a n }
     ensures { s.new ≡ put s.old out (part s.old a n) }
 {
-    s.copy_within(a..a + n, out);
+    map(s, out, a, n, |v| v);
 }
 
 // One vector made of one: each element of it is what f returns at that of a.

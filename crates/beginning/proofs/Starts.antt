@@ -16,7 +16,7 @@ use Rattle.layout.specs.declared.Sizes.{Sizes}
 use Rattle.layout.specs.declared.Places.{Places}
 use Rattle.layout.specs.declared.fit.Fit.{Fit}
 use Rattle.layout.proofs.Fits.{room_of}
-use Rattle.layout.specs.Slots.{Store, Has, HasRoom, Laid, vars, rest, words}
+use Rattle.layout.specs.Slots.{Store, Has, HasRoom, Suits, Panelled, Laid, vars, rest, words}
 use Rattle.layout.proofs.Slots.{then, next, cleared-of}
 use Rattle.layout.specs.Slots.{Slot.U, Slot.F}
 use Rattle.lazy_normalization.specs.Lazy.{recip_store}
@@ -25,22 +25,22 @@ use Rattle.design.specs.Statistics.{Given}
 use Rattle.design.specs.Eager.{design_store, gram_store}
 use Rattle.beginning.specs.Start.{blank_store, prepared_store}
 
-module _ (f : Fit) {s : List Float} (long : HasRoom f.sizes s) where
+module _ (f : Fit) {s : List Float} (suits : Suits f.sizes f.matrix.now) (long : HasRoom f.sizes s) where
   pub given : Given f.sizes f.places f.matrix.now s
-  given = record { room = room_of f long; matrix = f.lent; rows = f.rows; columns = f.small.columns }
+  given = record { room = room_of f long; matrix = suits.matrix; rows = suits.rows; columns = suits.columns }
 
-  pub lent : f.sizes.lazy ≡ true → Lent f.sizes f.places f.matrix.now s
-  lent z =
+  pub lent : 1 ≤ f.sizes.p → Panelled f.sizes → f.sizes.lazy ≡ true → Lent f.sizes f.places f.matrix.now s
+  lent some panels z =
       let least : f.sizes.n ≤ f.sizes.n = omega arith in
-      let few : f.sizes.n * 1 ≤ f.sizes.n * f.sizes.p = mul-le-mul least f.some_columns in
+      let few : f.sizes.n * 1 ≤ f.sizes.n * f.sizes.p = mul-le-mul least some in
       record {
         room = room_of f long;
-        matrix = f.lent;
-        rows = omega (arith, few, f.lent);
-        columns = f.some_columns;
-        panel-rows = f.panel_rows z;
-        panel-columns = f.panel_columns z;
-        small = omega (arith, f.rows, f.small.columns);
+        matrix = suits.matrix;
+        rows = omega (arith, few, suits.matrix);
+        columns = some;
+        panel-rows = panels.rows z;
+        panel-columns = panels.columns z;
+        small = omega (arith, suits.rows, suits.columns);
       }
 
 pub blanked : {sh : Sizes} {l : Places} {e : List Float} {v : Store} {m m₁ m₂ m₃ : List Float} {need : ℕ} → Laid sh l → Has sh e v m → need ≡ words sh

@@ -13,7 +13,7 @@ use Rattle.settings.specs.declared.Terms.{Terms}
 use Rattle.layout.specs.declared.Sizes.{Sizes}
 use Rattle.layout.specs.declared.Places.{Places}
 use Rattle.layout.specs.declared.fit.Fit.{Fit}
-use Rattle.layout.specs.Slots.{Store, HasRoom}
+use Rattle.layout.specs.Slots.{Store, HasRoom, Suits}
 use Rattle.layout.proofs.Fits.{room_of}
 use Rattle.lazy_normalization.specs.Lazy.{lazy_rows, lazy_columns}
 use Rattle.design_products.specs.Mode.{matvec_of, transposed_of, Held}
@@ -38,6 +38,7 @@ length-transposed sh t m v xs = go sh.lazy refl where
   go true z = rw (z, length-tab)
   go false z = rw (z, length-columns)
 
--- a fit is right for every memory that is long enough
-pub held_of : (f : Fit) {s : List Float} → HasRoom f.sizes s → Held f.sizes f.places f.matrix.now s
-held_of f long = record { room = room_of f long; matrix = f.lent; rows = f.rows; columns = f.small.columns; all = f.all; stored = f.stored }
+-- a fit whose sizes are right for its matrix is right for every memory that is long enough
+pub held_of : (f : Fit) {s : List Float} → Suits f.sizes f.matrix.now → HasRoom f.sizes s → Held f.sizes f.places f.matrix.now s
+held_of f suits long =
+    record { room = room_of f long; matrix = suits.matrix; rows = suits.rows; columns = suits.columns; all = suits.all; stored = suits.stored }

@@ -3,7 +3,7 @@
 
 ghost use Rattle.std.specs.Prelude.{◌≡◌, ◌+◌, ◌≤◌, length};
 ghost use Rattle.arrays.specs.Part.{part, put};
-ghost use Rattle.layout.specs.Slots.{HasRoom, vars};
+ghost use Rattle.layout.specs.Slots.{HasRoom, Suits, vars};
 ghost use Rattle.design_products.specs.Mode.{matvec_of, transposed_of};
 
 use layout::fit::Fit;
@@ -12,6 +12,7 @@ use layout::fit::Fit;
 // the Gram and the stored design, so that nothing which is read is overwritten.
 pub fn matvec(fit: &Fit, s: &mut [f64], v: usize, out: usize)
     requires room { HasRoom fit.now.sizes s.old }
+    requires suits { Suits fit.now.sizes fit.now.matrix.now }
     requires p_bound { v + fit.now.sizes.p ≤ fit.now.places.centre }
     requires y_le_out { fit.now.places.y ≤ out }
     requires k_bound { out + fit.now.sizes.k ≤ fit.now.places.design }
@@ -30,6 +31,7 @@ pub fn matvec(fit: &Fit, s: &mut [f64], v: usize, out: usize)
 // The transposed design times the vector at v. Here v lies between the Gram and the stored design, and the output below the columns' numbers.
 pub fn transposed(fit: &Fit, s: &mut [f64], v: usize, out: usize)
     requires room { HasRoom fit.now.sizes s.old }
+    requires suits { Suits fit.now.sizes fit.now.matrix.now }
     requires p_bound { out + fit.now.sizes.p ≤ fit.now.places.centre }
     requires y_le_v { fit.now.places.y ≤ v }
     requires k_bound { v + fit.now.sizes.k ≤ fit.now.places.design }
@@ -48,6 +50,7 @@ pub fn transposed(fit: &Fit, s: &mut [f64], v: usize, out: usize)
 // Two such products, in one pass where no reciprocal is missing: of the vector at v, and of the one at w into the first of t.
 pub fn transposed_both(fit: &Fit, s: &mut [f64], v: usize, out: usize, w: usize, t: &mut [f64])
     requires room { HasRoom fit.now.sizes s.old }
+    requires suits { Suits fit.now.sizes fit.now.matrix.now }
     requires p_bound { out + fit.now.sizes.p ≤ fit.now.places.centre }
     requires y_le_v { fit.now.places.y ≤ v }
     requires k_bound { v + fit.now.sizes.k ≤ fit.now.places.design }

@@ -2,7 +2,7 @@
 #![tactic(auto)]
 
 ghost use Rattle.std.specs.Prelude.{◌≡◌};
-ghost use Rattle.layout.specs.Slots.{HasRoom, vars, rest, Makes};
+ghost use Rattle.layout.specs.Slots.{HasRoom, Suits, vars, rest, Makes};
 ghost use Rattle.lasso_optimizer.specs.Opening.{residual_store, shrunk_store, primal_of, dual_of};
 ghost use Rattle.lasso_optimizer.specs.Gradphi.{Gradphi};
 ghost use Rattle.duality.specs.Gap.{DidGap, Known, start_store};
@@ -31,6 +31,7 @@ pub struct Values {
 // accepted trial has just made it.
 fn start_residuals(fit: &Fit, s: &mut [f64], known: bool)
     requires room { HasRoom fit.now.sizes s.old }
+    requires suits { Suits fit.now.sizes fit.now.matrix.now }
     requires known { let f = fit.now in Known f.sizes f.terms f.matrix.now known (vars f.sizes s.old) }
     ensures { let f = fit.now in Makes f.sizes (start_store f.sizes f.terms f.matrix.now) s.old s.new }
 {
@@ -47,6 +48,7 @@ fn start_residuals(fit: &Fit, s: &mut [f64], known: bool)
 // once for both products where no reciprocal is missing.
 fn residuals(fit: &Fit, s: &mut [f64], known: bool) -> [f64; 64]
     requires room { HasRoom fit.now.sizes s.old }
+    requires suits { Suits fit.now.sizes fit.now.matrix.now }
     requires known { let f = fit.now in Known f.sizes f.terms f.matrix.now known (vars f.sizes s.old) }
     ensures makes { let f = fit.now in Makes f.sizes (residual_store f.sizes f.terms f.matrix.now) s.old s.new }
     ensures gradphi { let f = fit.now in
@@ -94,6 +96,7 @@ fn primal_and_dual(fit: &Fit, s: &[f64], dual: f64) -> Objectives
 // Where `known`, newz holds the residuals already. gradphi comes with them, for the Newton part.
 pub fn gap(fit: &Fit, s: &mut [f64], dual: f64, known: bool) -> Values
     requires room { HasRoom fit.now.sizes s.old }
+    requires suits { Suits fit.now.sizes fit.now.matrix.now }
     requires known { let f = fit.now in Known f.sizes f.terms f.matrix.now known (vars f.sizes s.old) }
     ensures { let f = fit.now in
         DidGap f.sizes f.terms f.matrix.now (rest f.sizes s.old) (vars f.sizes s.old) dual result s.new }

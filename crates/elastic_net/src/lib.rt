@@ -4,8 +4,8 @@
 ghost use Rattle.std.specs.Prelude.{◌≡◌, true, ◌≤◌, length};
 ghost use Rattle.pause.specs.Paused.{call};
 ghost use Rattle.settings.specs.Settings.{terms_of};
-ghost use Rattle.layout.specs.Slots.{HasRoom, vars, rest};
-ghost use Rattle.layout.specs.Need.{sizes_of};
+ghost use Rattle.layout.specs.Slots.{HasRoom, Suits, vars, rest};
+ghost use Rattle.layout.specs.Need.{sizes_of, Small};
 ghost use Rattle.lasso_optimizer.specs.Fit.{parts};
 ghost use Rattle.records.specs.Record.{state_of};
 ghost use Rattle.stages.specs.Stage.{Did};
@@ -18,6 +18,7 @@ use beginning::{begin, fresh_scalars};
 use checks::{limits, start_values};
 use ending::{solution, wipe};
 use layout::fit::Fit;
+use layout::need;
 use records::{Counts, Paused, clean, ended, first, possible, spent};
 use refusal::{Failure, Refusal, Way};
 use settings::Settings;
@@ -41,6 +42,8 @@ pub struct Resumed {
 // Up to `budget` steps. A fit that may open no round ends at the limit before its first step, whatever the budget.
 fn go(fit: &Fit, s: &mut [f64], rec: Paused, budget: u64) -> Stepped
     requires room { HasRoom fit.now.sizes s.old }
+    requires suits { Suits fit.now.sizes fit.now.matrix.now }
+    requires limit_bound { fit.now.limit ≤ 1000 }
     requires rec_value { possible_of fit.now.limit rec ≡ true }
     ensures { let f = fit.now in
         Did f.sizes (rest f.sizes s.old) (call (parts f.sizes f.terms f.tol f.matrix.now) f.limit budget
@@ -74,6 +77,8 @@ fn finish(
     c: Counts,
 ) -> Resumed
     requires room { HasRoom fit.now.sizes s.old }
+    requires small { Small fit.now.sizes }
+    requires rows { fit.now.sizes.n ≤ 4096 }
     requires targets { length y.now ≡ fit.now.sizes.n }
     requires weights { length w.old ≡ fit.now.sizes.p }
     ensures { let f = fit.now in outcome result w.new s.new
@@ -81,7 +86,7 @@ fn finish(
 {
     let e = ended(c);
     let b = solution(fit, s, y, w);
-    wipe(fit, s);
+    wipe(s, fit.sizes, need(fit.sizes));
     match how {
         Ok(way) => Resumed {
             answer: Answer::Done(b, way, c),
@@ -177,6 +182,6 @@ pub fn start(
     limits(n, p, x.len(), y.len(), p, st, s.len())?;
     start_values(x, y, n, p, st.normalise)?;
     let fit = Fit::new(x, n, p, st);
-    begin(&fit, y, s);
+    begin(&fit, y, s, need(fit.sizes));
     Ok(first(fresh_scalars(p, fit.terms.lambda)))
 }

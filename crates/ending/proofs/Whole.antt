@@ -37,8 +37,9 @@ wiped sh need s s' e h q =
     q ∙ sets-eq xs s 0 (omega arith) ∙ ap (λ (n : ℕ). xs ++ drop n s) k ∙ rw e
 
 -- what a fit has and its end asks
-pub ends : (f : Fit) {s ys ws : List Float} → HasRoom f.sizes s → length ys ≡ f.sizes.n → length ws ≡ f.sizes.p → Ends f.sizes f.places s ys ws
-ends f long targets weights = record { room = room_of f long; rows = f.rows; targets = targets; weights = weights }
+pub ends : (f : Fit) {s ys ws : List Float} → HasRoom f.sizes s → f.sizes.n ≤ 4096 → length ys ≡ f.sizes.n → length ws ≡ f.sizes.p
+    → Ends f.sizes f.places s ys ws
+ends f long rows targets weights = record { room = room_of f long; rows = rows; targets = targets; weights = weights }
 
 -- the answers: w₁ the copied weights, w₂ the rescaled, w₃ the swept
 module _ (sh : Sizes) (l : Places) {s ys w₀ : List Float} (h : Ends sh l s ys w₀) where

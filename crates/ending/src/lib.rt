@@ -3,13 +3,13 @@
 
 ghost use Rattle.std.specs.Prelude.{◌≡◌, true, false, ◌+◌, ◌≤◌, length};
 ghost use Rattle.arrays.specs.Part.{part};
-ghost use Rattle.layout.specs.Slots.{HasRoom, vars, rest};
+ghost use Rattle.layout.specs.Slots.{HasRoom, words, vars, rest};
 ghost use Rattle.ending.specs.End.{rescaled_of, weights_of, intercept_of, gone};
 
 use arrays::sums::{mean, product};
 use arrays::vectors::{copy_from, fill, sweep, times};
+use layout::Sizes;
 use layout::fit::Fit;
-use layout::need;
 use numbers::bits::canonical;
 
 // gamma * w / deviation, in place of the weights.
@@ -35,6 +35,7 @@ fn scale(w: &mut [f64], gamma: f64, p: usize)
 // normalised.
 pub fn solution(fit: &Fit, s: &[f64], y: &[f64], w: &mut [f64]) -> f64
     requires room { HasRoom fit.now.sizes s.now }
+    requires rows { fit.now.sizes.n ≤ 4096 }
     requires targets { length y.now ≡ fit.now.sizes.n }
     requires weights { length w.old ≡ fit.now.sizes.p }
     ensures weights_are { let f = fit.now in
@@ -59,9 +60,10 @@ pub fn solution(fit: &Fit, s: &[f64], y: &[f64], w: &mut [f64]) -> f64
 }
 
 // The needed scratch becomes +0; what lies behind it stays.
-pub fn wipe(fit: &Fit, s: &mut [f64])
-    requires { HasRoom fit.now.sizes s.old }
-    ensures { s.new ≡ gone fit.now.sizes (rest fit.now.sizes s.old) }
+pub fn wipe(s: &mut [f64], sh: Sizes, need: usize)
+    requires need_value { need ≡ words sh }
+    requires need_in_bounds { need ≤ length s.old }
+    ensures { s.new ≡ gone sh (rest sh s.old) }
 {
-    fill(s, 0, need(fit.sizes), 0.0);
+    fill(s, 0, need, 0.0);
 }

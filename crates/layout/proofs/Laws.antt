@@ -10,7 +10,7 @@ use Rattle.settings.specs.declared.Settings.{Settings}
 use Rattle.settings.specs.Settings.{Panels}
 use Rattle.layout.specs.declared.Sizes.{Sizes}
 use Rattle.layout.proofs.Store.{within, apart}
-use Rattle.layout.specs.Slots.{Slot, num, size, off, words}
+use Rattle.layout.specs.Slots.{Slot, num, size, off, words, Panelled}
 use Rattle.layout.proofs.Slots.{table, need-is}
 use Rattle.layout.specs.Need.{sizes_of, need_of, Small}
 
@@ -48,10 +48,6 @@ sizes-known n p st = go st.lazy refl where
   go false q = rw q (record { rows = refl; columns = refl; all = refl; stored = λ h. refl })
 
 -- the panels of a lazy fit have rows and columns
-pub record Panelled (sh : Sizes) : Type 0 where
-  pub rows : sh.lazy ≡ true → 1 ≤ sh.pr
-  pub columns : sh.lazy ≡ true → 1 ≤ sh.pc
-
 pub panelled : (n p : ℕ) (st : Settings) → (st.lazy ≡ true → Panels st) → Panelled (sizes_of n p st)
 unfolding sizes_of
 panelled n p st g = go st.lazy refl where

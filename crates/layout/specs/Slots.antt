@@ -1,5 +1,5 @@
 -- The vectors of a fit, where they lie in the lent scratch, and what it means that memory holds them. Definitions only.
-use Rattle.std.specs.Prelude.{◌≡◌, List, [], ◌∷◌, ◌++◌, ℕ, ◌+◌, ◌*◌, ◌≤◌, length, drop, Float}
+use Rattle.std.specs.Prelude.{◌≡◌, true, false, List, [], ◌∷◌, ◌++◌, ℕ, ◌+◌, ◌*◌, ◌≤◌, length, drop, Float}
 use Rattle.arrays.specs.Part.{part}
 use Rattle.arrays.specs.Vectors.{fill_of}
 use Rattle.layout.specs.declared.Sizes.{Sizes}
@@ -206,6 +206,19 @@ pub record Laid (sh : Sizes) (l : Places) : Type 0 where
 -- a memory that is long enough
 abbrev pub HasRoom : Sizes → List Float → Type 0
 HasRoom sh m = 40 * sh.p + 2 * (sh.pr * sh.pc) + sh.pc * sh.pc + sh.p * sh.p + 4 * sh.k + sh.stored * sh.p ≤ length m
+
+-- sizes that are right for a lent matrix
+pub record Suits (sh : Sizes) (m : List Float) : Type 0 where
+  pub matrix : sh.n * sh.p ≤ length m
+  pub rows : sh.n ≤ 4096
+  pub columns : sh.p ≤ 64
+  pub all : sh.k ≡ sh.n + sh.p
+  pub stored : sh.lazy ≡ false → sh.stored ≡ sh.k
+
+-- the panels of a design that is not stored
+pub record Panelled (sh : Sizes) : Type 0 where
+  pub rows : sh.lazy ≡ true → 1 ≤ sh.pr
+  pub columns : sh.lazy ≡ true → 1 ≤ sh.pc
 
 -- sizes and places that are right for a memory
 pub record Room (sh : Sizes) (l : Places) (m : List Float) : Type 0 where

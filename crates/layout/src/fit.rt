@@ -1,7 +1,7 @@
 // What every part of a fit reads and none changes.
 
-ghost use Rattle.std.specs.Prelude.{◌≡◌, ◌+◌, ◌*◌, ◌≤◌, T, true, false, length};
-ghost use Rattle.layout.specs.Slots.{Laid};
+ghost use Rattle.std.specs.Prelude.{◌≡◌, ◌*◌, ◌≤◌, T, length};
+ghost use Rattle.layout.specs.Slots.{Laid, Suits, Panelled};
 ghost use Rattle.layout.specs.Need.{Small, sizes_of};
 ghost use Rattle.settings.specs.Settings.{allowed_of, terms_of};
 
@@ -19,15 +19,6 @@ pub struct Fit<'a> {
     pub tol: f64,
     pub limit: u64,
     pub ghost laid: { Laid sizes places },
-    pub ghost small: { Small sizes },
-    pub ghost lent: { sizes.n * sizes.p ≤ length matrix.now },
-    pub ghost rows: { sizes.n ≤ 4096 },
-    pub ghost some_columns: { 1 ≤ sizes.p },
-    pub ghost all: { sizes.k ≡ sizes.n + sizes.p },
-    pub ghost stored: { sizes.lazy ≡ false → sizes.stored ≡ sizes.k },
-    pub ghost panel_rows: { sizes.lazy ≡ true → 1 ≤ sizes.pr },
-    pub ghost panel_columns: { sizes.lazy ≡ true → 1 ≤ sizes.pc },
-    pub ghost limit_bound: { limit ≤ 1000 },
 }
 
 impl<'a> Fit<'a> {
@@ -44,6 +35,11 @@ impl<'a> Fit<'a> {
         ensures normalise_is { result.normalise ≡ st.normalise }
         ensures tol_is { result.tol ≡ st.tol }
         ensures limit_is { result.limit ≡ st.max_iter }
+        ensures suits { Suits result.sizes result.matrix.now }
+        ensures some_columns { 1 ≤ result.sizes.p }
+        ensures panelled { Panelled result.sizes }
+        ensures small { Small result.sizes }
+        ensures limit_bound { result.limit ≤ 1000 }
     {
         let sizes = sizes_of(n, p, st);
         Fit {

@@ -22,7 +22,7 @@ pub infinity : one ⊘ plus0 ≡ f64 0x7ff0_0000_0000_0000
 unfolding div of_bits
 infinity = refl
 
-reciprocal_is : (scale : Float) (a b : Bool) → a ≡ is_normal scale → b ≡ is_normal (one ⊘ scale) → cond (a && b) (one ⊘ scale) plus0 ≡ reciprocal_of scale
+pub reciprocal_is : (scale : Float) (a b : Bool) → a ≡ is_normal scale → b ≡ is_normal (one ⊘ scale) → cond (a && b) (one ⊘ scale) plus0 ≡ reciprocal_of scale
 unfolding reciprocal_of
 reciprocal_is scale a b p q = rw (p, q)
 

@@ -2,8 +2,8 @@
 // wrong and nothing was done.
 #![tactic(auto)]
 
-ghost use Rattle.std.specs.Prelude.{◌≡◌, ◌+◌, ◌*◌, length};
-ghost use Rattle.layout.specs.Slots.{HasRoom};
+ghost use Rattle.std.specs.Prelude.{◌≡◌, ◌≤◌, ◌+◌, ◌*◌, length};
+ghost use Rattle.layout.specs.Slots.{HasRoom, Suits, Panelled};
 
 use arrays::vectors::copy_from;
 use bg_solver::shared::Turned;
@@ -27,18 +27,17 @@ pub fn measure_round(
     if p < 1 || p > 64 || gram.len() != p * p || given.len() != 8 * p {
         return 0;
     }
-    // The solver reads neither matrix, panels nor terms: these are of a fit without rows, whose panels have a word each.
+    // The solver reads neither matrix, panels nor terms: these are of a lazy fit of one row, without panels.
     let sizes = Sizes {
-        n: 0,
+        n: 1,
         p,
-        k: p,
+        k: p + 1,
         lazy: true,
         stored: 0,
-        pr: 1,
-        pc: 1,
+        pr: 0,
+        pc: 0,
     };
-    // What a fit of one row needs without its panels is a word more.
-    if s.len() <= need(sizes) {
+    if s.len() < need(sizes) {
         return 0;
     }
     let fit = Fit {
@@ -135,6 +134,9 @@ pub fn measure_piece(
 
 fn repeat(fit: &Fit, piece: Piece, given: &[f64], s: &mut [f64], count: usize) -> usize
     requires room { HasRoom fit.now.sizes s.old }
+    requires suits { Suits fit.now.sizes fit.now.matrix.now }
+    requires some_columns { 1 ≤ fit.now.sizes.p }
+    requires panelled { Panelled fit.now.sizes }
     requires vectors { length given.now ≡ fit.now.sizes.n + 2 * fit.now.sizes.p }
 {
     let mut at = 0;
@@ -146,6 +148,9 @@ fn repeat(fit: &Fit, piece: Piece, given: &[f64], s: &mut [f64], count: usize) -
 
 fn worked(fit: &Fit, piece: Piece, given: &[f64], s: &mut [f64]) -> usize
     requires room { HasRoom fit.now.sizes s.old }
+    requires suits { Suits fit.now.sizes fit.now.matrix.now }
+    requires some_columns { 1 ≤ fit.now.sizes.p }
+    requires panelled { Panelled fit.now.sizes }
     requires vectors { length given.now ≡ fit.now.sizes.n + 2 * fit.now.sizes.p }
 {
     let l = fit.places;
@@ -176,6 +181,7 @@ fn worked(fit: &Fit, piece: Piece, given: &[f64], s: &mut [f64]) -> usize
 
 fn ready(fit: &Fit, given: &[f64], s: &mut [f64])
     requires room { HasRoom fit.now.sizes s.old }
+    requires suits { Suits fit.now.sizes fit.now.matrix.now }
     requires vectors { length given.now ≡ fit.now.sizes.n + 2 * fit.now.sizes.p }
 {
     let l = fit.places;
@@ -187,7 +193,8 @@ fn ready(fit: &Fit, given: &[f64], s: &mut [f64])
 
 // Not where nothing is stored.
 fn stored(fit: &Fit, s: &mut [f64]) -> usize
-    requires { HasRoom fit.now.sizes s.old }
+    requires room { HasRoom fit.now.sizes s.old }
+    requires suits { Suits fit.now.sizes fit.now.matrix.now }
 {
     let l = fit.places;
     if fit.sizes.lazy {
@@ -198,7 +205,10 @@ fn stored(fit: &Fit, s: &mut [f64]) -> usize
 }
 
 fn gram(fit: &Fit, s: &mut [f64]) -> usize
-    requires { HasRoom fit.now.sizes s.old }
+    requires room { HasRoom fit.now.sizes s.old }
+    requires suits { Suits fit.now.sizes fit.now.matrix.now }
+    requires some_columns { 1 ≤ fit.now.sizes.p }
+    requires panelled { Panelled fit.now.sizes }
 {
     let l = fit.places;
     if fit.sizes.lazy {

@@ -4,7 +4,7 @@
 ghost use Rattle.std.specs.Prelude.{◌≡◌};
 ghost use Rattle.arrays.specs.Part.{part, put};
 ghost use Rattle.design_products.specs.Mode.{transposed_of};
-ghost use Rattle.layout.specs.Slots.{HasRoom, vars, Makes};
+ghost use Rattle.layout.specs.Slots.{HasRoom, Suits, vars, Makes};
 ghost use Rattle.lasso_optimizer.specs.Gradphi.{Gradphi};
 ghost use Rattle.lasso_optimizer.specs.Opening.{barrier_store, gradient_store, preconditioner_store, newton_store};
 
@@ -30,6 +30,7 @@ fn barrier(fit: &Fit, s: &mut [f64], t: f64)
 // gradphi, in the place of xnu: g, so that the design is not read again.
 fn gradphi(fit: &Fit, s: &mut [f64], g: [f64; 64])
     requires room { HasRoom fit.now.sizes s.old }
+    requires suits { Suits fit.now.sizes fit.now.matrix.now }
     requires gradphi { let f = fit.now in Gradphi f.sizes f.terms f.matrix.now (vars f.sizes s.old) g }
     ensures { let f = fit.now in s.new ≡ put s.old f.places.xnu
         (transposed_of f.sizes f.terms f.matrix.now (vars f.sizes s.old) (part s.old f.places.z f.sizes.k)) }
@@ -41,6 +42,7 @@ fn gradphi(fit: &Fit, s: &mut [f64], g: [f64; 64])
 // gradphi and then g1 in the place of xnu, and grad.
 fn gradient(fit: &Fit, s: &mut [f64], t: f64, g: [f64; 64])
     requires room { HasRoom fit.now.sizes s.old }
+    requires suits { Suits fit.now.sizes fit.now.matrix.now }
     requires gradphi { let f = fit.now in Gradphi f.sizes f.terms f.matrix.now (vars f.sizes s.old) g }
     ensures { let f = fit.now in Makes f.sizes (gradient_store f.sizes f.terms f.matrix.now t) s.old s.new }
 {
@@ -64,6 +66,7 @@ fn preconditioner(fit: &Fit, s: &mut [f64])
 // All that the solver reads besides the Gram and its start: the terms of the barrier, the gradient and the preconditioner. g is what the gap part answered.
 pub fn newton_terms(fit: &Fit, s: &mut [f64], t: f64, g: [f64; 64])
     requires room { HasRoom fit.now.sizes s.old }
+    requires suits { Suits fit.now.sizes fit.now.matrix.now }
     requires gradphi { let f = fit.now in Gradphi f.sizes f.terms f.matrix.now (vars f.sizes s.old) g }
     ensures { let f = fit.now in Makes f.sizes (newton_store f.sizes f.terms f.matrix.now t) s.old s.new }
 {

@@ -2,7 +2,7 @@
 #![tactic(auto)]
 
 ghost use Rattle.std.specs.Prelude.{◌≡◌};
-ghost use Rattle.layout.specs.Slots.{HasRoom, vars, rest};
+ghost use Rattle.layout.specs.Slots.{HasRoom, Suits, vars, rest};
 ghost use Rattle.duality.specs.Gap.{Known};
 ghost use Rattle.lasso_optimizer.specs.Data.{held};
 ghost use Rattle.lasso_optimizer.specs.Opening.{opens, pcgtol_of};
@@ -34,6 +34,7 @@ fn pcgtol(fit: &Fit, s: &[f64], r: u64, a: Scalars, gap: f64) -> f64
 // below 0; else Ready. A NaN is neither, so it goes on. Where `known`, newz holds the residuals already.
 pub fn open(fit: &Fit, s: &mut [f64], r: u64, a: Scalars, known: bool) -> Opened
     requires room { HasRoom fit.now.sizes s.old }
+    requires suits { Suits fit.now.sizes fit.now.matrix.now }
     requires known { let f = fit.now in Known f.sizes f.terms f.matrix.now known (vars f.sizes s.old) }
     ensures { let f = fit.now in DidOpen f.sizes (rest f.sizes s.old)
         (opens f.sizes f.terms f.matrix.now f.tol r (held a (vars f.sizes s.old))) result s.new }

@@ -139,7 +139,7 @@ fn pair(b: &[u8], p: usize, i: usize) -> (usize, usize)
 pub fn pair_above(s: usize, t: usize, u: usize, v: usize) -> bool
     ensures { result ≡ above s t u v }
 {
-    (s, t) < (u, v)
+    if s == u { t < v } else { s < u }
 }
 
 // ---- what remains
@@ -155,7 +155,11 @@ pub fn count_remaining(b: &[u8], n: usize, p: usize) -> usize
     requires { row_at p n ≤ length b.now }
     ensures { result ≡ length (remaining b.now p n) }
 {
-    (0..n).filter(|i| !is_cancelled(b, p, *i)).count()
+    let mut left = 0;
+    for i in 0..n {
+        left += usize::from(!is_cancelled(b, p, i));
+    }
+    left
 }
 
 // ---- the lent slices

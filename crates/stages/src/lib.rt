@@ -3,7 +3,7 @@
 
 ghost use Rattle.std.specs.Prelude.{◌≡◌, ◌≤◌};
 ghost use Rattle.pause.specs.Paused.{opening, solving, searching, step};
-ghost use Rattle.layout.specs.Slots.{HasRoom, vars, rest};
+ghost use Rattle.layout.specs.Slots.{HasRoom, Suits, vars, rest};
 ghost use Rattle.duality.specs.Gap.{Known};
 ghost use Rattle.lasso_optimizer.specs.Data.{held};
 ghost use Rattle.lasso_optimizer.specs.Fit.{parts};
@@ -50,6 +50,8 @@ fn scalars_of(o: Tried) -> Scalars
 // Where `known`, newz holds the residuals already.
 pub fn opening_step(fit: &Fit, s: &mut [f64], r: u64, c: Counts, a: Scalars, known: bool) -> Stepped
     requires room { HasRoom fit.now.sizes s.old }
+    requires suits { Suits fit.now.sizes fit.now.matrix.now }
+    requires limit_bound { fit.now.limit ≤ 1000 }
     requires known { let f = fit.now in Known f.sizes f.terms f.matrix.now known (vars f.sizes s.old) }
     requires opening_in { OpeningIn fit.now.limit r (counts_of c) }
     ensures { let f = fit.now in
@@ -90,6 +92,8 @@ fn search_begins(fit: &Fit, s: &[f64], r: u64, d: Counts, w: Scalars) -> Stepped
 // Makes the solver's round k. Where it stops, or is round 4,999, the search begins in the same step.
 pub fn solving_step(fit: &Fit, s: &mut [f64], r: u64, k: u64, c: Counts, a: Scalars) -> Stepped
     requires room { HasRoom fit.now.sizes s.old }
+    requires suits { Suits fit.now.sizes fit.now.matrix.now }
+    requires limit_bound { fit.now.limit ≤ 1000 }
     requires solving_in { SolvingIn fit.now.limit r k (counts_of c) }
     ensures { let f = fit.now in
         Did f.sizes (rest f.sizes s.old) (step (parts f.sizes f.terms f.tol f.matrix.now) f.limit
@@ -118,6 +122,8 @@ pub fn solving_step(fit: &Fit, s: &mut [f64], r: u64, k: u64, c: Counts, a: Scal
 // Makes a trial after j others. One that is taken leads to the next round or the limit; one that is not halves the step, and the hundredth fails.
 pub fn searching_step(fit: &Fit, s: &mut [f64], r: u64, j: u64, c: Counts, a: Scalars) -> Stepped
     requires room { HasRoom fit.now.sizes s.old }
+    requires suits { Suits fit.now.sizes fit.now.matrix.now }
+    requires limit_bound { fit.now.limit ≤ 1000 }
     requires searching_in { SearchingIn fit.now.limit r j (counts_of c) }
     ensures { let f = fit.now in
         Did f.sizes (rest f.sizes s.old) (step (parts f.sizes f.terms f.tol f.matrix.now) f.limit

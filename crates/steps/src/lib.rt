@@ -4,7 +4,7 @@
 ghost use Rattle.std.specs.Prelude.{◌≡◌, ◌≤◌};
 ghost use Rattle.pause.specs.Progress.{run};
 ghost use Rattle.pause.specs.Paused.{step};
-ghost use Rattle.layout.specs.Slots.{HasRoom, vars, rest};
+ghost use Rattle.layout.specs.Slots.{HasRoom, Suits, vars, rest};
 ghost use Rattle.lasso_optimizer.specs.Fit.{parts};
 ghost use Rattle.records.specs.Record.{state_of, Sane};
 ghost use Rattle.stages.specs.Stage.{Did};
@@ -18,6 +18,8 @@ use stages::{Stepped, opening_step, searching_step, solving_step};
 // `known` is for an opening: where it is true, newz holds the residuals already.
 pub fn one_step(fit: &Fit, s: &mut [f64], rec: Paused, known: bool) -> Stepped
     requires room { HasRoom fit.now.sizes s.old }
+    requires suits { Suits fit.now.sizes fit.now.matrix.now }
+    requires limit_bound { fit.now.limit ≤ 1000 }
     requires known_at { let f = fit.now in
         KnownAt rec.stage f.sizes f.terms f.matrix.now known (vars f.sizes s.old) }
     requires sane { Sane fit.now.limit rec }
@@ -44,6 +46,8 @@ fn searched(g: Stage) -> bool
 // again, but a record that comes from outside is not trusted, so an opening that begins a call makes its residuals.
 pub fn run_steps(fit: &Fit, s: &mut [f64], rec: Paused, budget: u64) -> Stepped
     requires room { HasRoom fit.now.sizes s.old }
+    requires suits { Suits fit.now.sizes fit.now.matrix.now }
+    requires limit_bound { fit.now.limit ≤ 1000 }
     requires sane { Sane fit.now.limit rec }
     ensures { let f = fit.now in
         Did f.sizes (rest f.sizes s.old) (run (step (parts f.sizes f.terms f.tol f.matrix.now) f.limit) budget

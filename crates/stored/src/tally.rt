@@ -129,7 +129,7 @@ impl Tally {
     }
 }
 
-fn more(n: u64, yes: bool) -> u64 {
+pub fn more(n: u64, yes: bool) -> u64 {
     n.wrapping_add(u64::from(yes))
 }
 

@@ -2,7 +2,7 @@
 #![tactic(auto)]
 
 ghost use Rattle.std.specs.Prelude.{◌≡◌};
-ghost use Rattle.layout.specs.Slots.{HasRoom, vars, rest, Makes};
+ghost use Rattle.layout.specs.Slots.{HasRoom, Suits, vars, rest, Makes};
 ghost use Rattle.lasso_optimizer.specs.Data.{held};
 ghost use Rattle.lasso_optimizer.specs.Trial.{moved_store, newz_store, newphi_of, taken_store, halved, decide_by, tries};
 ghost use Rattle.lasso_optimizer.specs.Fit.{DidTry};
@@ -27,7 +27,8 @@ fn move_on(fit: &Fit, s: &mut [f64], step: f64)
 
 // newz: the design times the new weights, less the targets.
 fn residuals(fit: &Fit, s: &mut [f64])
-    requires { HasRoom fit.now.sizes s.old }
+    requires room { HasRoom fit.now.sizes s.old }
+    requires suits { Suits fit.now.sizes fit.now.matrix.now }
     ensures { let f = fit.now in Makes f.sizes (newz_store f.sizes f.terms f.matrix.now) s.old s.new }
 {
     let l = fit.places;
@@ -66,7 +67,8 @@ fn half_step(a: Scalars) -> Scalars
 
 // A new point inside its bounds: it is taken where phi decreases enough, else the step is halved.
 fn decide(fit: &Fit, s: &mut [f64], a: Scalars) -> Tried
-    requires { HasRoom fit.now.sizes s.old }
+    requires room { HasRoom fit.now.sizes s.old }
+    requires suits { Suits fit.now.sizes fit.now.matrix.now }
     ensures { let f = fit.now in
         DidTry f.sizes (rest f.sizes s.old) (decide_by a
         (newphi_of f.sizes f.terms a.t (newz_store f.sizes f.terms f.matrix.now (vars f.sizes s.old)))
@@ -83,7 +85,8 @@ fn decide(fit: &Fit, s: &mut [f64], a: Scalars) -> Tried
 
 // One trial, with the step that the scalars have. A new point that is not inside its bounds is not weighed: the step is halved.
 pub fn attempt(fit: &Fit, s: &mut [f64], a: Scalars) -> Tried
-    requires { HasRoom fit.now.sizes s.old }
+    requires room { HasRoom fit.now.sizes s.old }
+    requires suits { Suits fit.now.sizes fit.now.matrix.now }
     ensures { let f = fit.now in DidTry f.sizes (rest f.sizes s.old)
         (tries f.sizes f.terms f.matrix.now (held a (vars f.sizes s.old))) result s.new }
 {

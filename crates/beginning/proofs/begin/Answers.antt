@@ -9,19 +9,16 @@ use Rattle.beginning.proofs.Starts.{given}
 use Rattle.beginning.proofs.begin.Goals as goal
 
 pub statistics-requires : goal.statistics-requires
-statistics-requires c = given c.args.fit.now (omega arith)
+statistics-requires c = given c.args.fit.now c.requires.suits (omega arith)
 
 pub targets-requires : goal.targets-requires
 targets-requires c =
-    let f = c.args.fit.now in
-    record { room = room_of f (omega arith); targets = c.requires.targets; all = f.all; rows = f.rows; columns = f.small.columns }
-
-pub need-requires : goal.need-requires
-need-requires c = c.args.fit.now.small
+    let h = c.requires.suits in
+    record { room = room_of c.args.fit.now (omega arith); targets = c.requires.targets; all = h.all; rows = h.rows; columns = h.columns }
 
 pub sweep-requires : goal.sweep-requires
 unfolding words
-sweep-requires c = omega (arith, c.need.ensures)
+sweep-requires c = omega (arith, c.requires.need_value)
 
 pub returns : goal.returns
 unfolding start_store

@@ -6,10 +6,10 @@ use Rattle.beginning.proofs.Starts.{given, lent, unstored, stored}
 use Rattle.beginning.proofs.prepare.Goals as goal
 
 pub reciprocals-requires : goal.reciprocals-requires
-reciprocals-requires c = room_of c.args.fit.now c.requires
+reciprocals-requires c = room_of c.args.fit.now c.requires.room
 
 pub gram-requires : goal.gram-requires
-gram-requires c = lent c.args.fit.now (omega arith) c.if-sh.true
+gram-requires c = lent c.args.fit.now c.requires.suits (omega arith) c.requires.some_columns c.requires.panelled c.if-sh.true
 
 pub returns-then-sh : goal.returns-then-sh
 returns-then-sh c =
@@ -18,8 +18,8 @@ returns-then-sh c =
 
 pub augment-requires : goal.augment-requires
 augment-requires c =
-    let f = c.args.fit.now in
-    record { given = given f c.requires; stored_value = f.stored c.if-sh.false ∙ f.all }
+    let h = c.requires.suits in
+    record { given = given c.args.fit.now h c.requires.room; stored_value = h.stored c.if-sh.false ∙ h.all }
 
 pub gram-requires-2 : goal.gram-requires-2
 gram-requires-2 c = room_of c.args.fit.now (omega arith)

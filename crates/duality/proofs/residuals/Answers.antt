@@ -8,4 +8,4 @@ pub returns : goal.returns
 returns c =
     let z = c.start_residuals.ensures in
     let nu = c.times.ensures in
-    record { makes = residuals-left (held_of c.args.fit.now c.requires.room) c.args.fit.now.terms z nu c.transposed_both.ensures.s_after; gradphi = gradphi-made (held_of c.args.fit.now c.requires.room) c.args.fit.now.terms z nu _ _ (omega arith) c.transposed_both.ensures.t_after }
+    record { makes = residuals-left (held_of c.args.fit.now c.requires.suits c.requires.room) c.args.fit.now.terms z nu c.transposed_both.ensures.s_after; gradphi = gradphi-made (held_of c.args.fit.now c.requires.suits c.requires.room) c.args.fit.now.terms z nu _ _ (omega arith) c.transposed_both.ensures.t_after }

@@ -11,7 +11,7 @@ new-fit-requires-clause-allowed c = c.requires.accepted.settings
 pub go-requires : goal.go-requires
 go-requires c =
     let e = c.new-fit.ensures in
-    record { room = has-room c.requires.accepted e.sizes_are _ refl; rec_value = rw e.limit_is c.requires.rec_value }
+    record { room = has-room c.requires.accepted e.sizes_are _ refl; suits = e.suits; limit_bound = e.limit_bound; rec_value = rw e.limit_is c.requires.rec_value }
 
 pub tidy-requires : goal.tidy-requires
 tidy-requires c = has-room c.requires.accepted c.new-fit.ensures.sizes_are _ c.go.auto.s
@@ -19,8 +19,9 @@ tidy-requires c = has-room c.requires.accepted c.new-fit.ensures.sizes_are _ c.g
 pub finish-requires : goal.finish-requires
 finish-requires c =
     let a = c.requires.accepted in
-    let q = c.new-fit.ensures.sizes_are in
-    record { room = has-room a q _ c.go.auto.s; targets = a.targets ∙ sym (known a q).rows; weights = a.weights ∙ sym (known a q).columns }
+    let e = c.new-fit.ensures in
+    let q = e.sizes_are in
+    record { room = has-room a q _ c.go.auto.s; small = e.small; rows = e.suits.rows; targets = a.targets ∙ sym (known a q).rows; weights = a.weights ∙ sym (known a q).columns }
 
 pub shape_of-s-in-Going : goal.shape_of-s-in-Going
 shape_of-s-in-Going c =

@@ -1,7 +1,13 @@
 -- `elastic_net::finish` meets its contract: one return for a fit that is done, and one for a fit that failed, whose weights are +0. Assumes nothing.
 use mathlib.Core.Path.{◌∙◌}
+use native.Mathlib.Omega.{arith}
+use Rattle.layout.specs.Slots.{words}
 use Rattle.elastic_net.proofs.Ends.{is-done, fails}
 use Rattle.elastic_net.proofs.finish.Goals as goal
+
+pub wipe-requires-clause-need_in_bounds : goal.wipe-requires-clause-need_in_bounds
+unfolding words
+wipe-requires-clause-need_in_bounds c = omega (arith, c.need.ensures, c.requires.room)
 
 pub returns-in-Ok : goal.returns-in-Ok
 returns-in-Ok c =

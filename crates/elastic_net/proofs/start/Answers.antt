@@ -20,8 +20,9 @@ new-fit-requires c =
 pub begin-requires : goal.begin-requires
 begin-requires c =
     let a = passes c.limits.result c.limits.ensures c.in_ok-limits.was in
-    let q = c.new-fit.ensures.sizes_are in
-    record { room = has-room a q _ refl; targets = a.targets ∙ sym (known a q).rows }
+    let e = c.new-fit.ensures in
+    let q = e.sizes_are in
+    record { room = has-room a q _ refl; suits = e.suits; some_columns = e.some_columns; panelled = e.panelled; need_value = c.need.ensures; targets = a.targets ∙ sym (known a q).rows }
 
 pub fresh_scalars-requires : goal.fresh_scalars-requires
 fresh_scalars-requires c =

@@ -8,7 +8,7 @@ returns-then-fit c =
     let f = c.args.fit.now in
     let r = c.requires in
     let both =
-    normal f.sizes f.places (ends f r.room r.targets r.weights) f.terms.gamma c.copy_from.ensures c.mean-mu.ensures c.rescale.ensures
+    normal f.sizes f.places (ends f r.room r.rows r.targets r.weights) f.terms.gamma c.copy_from.ensures c.mean-mu.ensures c.rescale.ensures
     (omega arith) c.product-b.ensures c.sweep.ensures c.canonical.ensures in
     rw c.if-fit.true (record { weights_are = both.0; intercept_is = both.1 })
 
@@ -17,6 +17,6 @@ returns c =
     let f = c.args.fit.now in
     let r = c.requires in
     let both =
-    plain f.sizes f.places (ends f r.room r.targets r.weights) f.terms.gamma c.copy_from.ensures c.mean-mu.ensures c.scale.ensures
+    plain f.sizes f.places (ends f r.room r.rows r.targets r.weights) f.terms.gamma c.copy_from.ensures c.mean-mu.ensures c.scale.ensures
     c.sweep-2.ensures c.canonical-2.ensures in
     rw c.if-fit.false (record { weights_are = both.0; intercept_is = both.1 })

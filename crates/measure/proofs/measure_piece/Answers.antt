@@ -23,6 +23,7 @@ new-fit-requires c =
 pub repeat-requires : goal.repeat-requires
 repeat-requires c =
     let a = passes c.limits.result c.limits.ensures c.in-Ok.is in
-    let q = c.new-fit.ensures.sizes_are in
+    let e = c.new-fit.ensures in
+    let q = e.sizes_are in
     let k = known a q in
-    record { room = has-room a q _ refl; vectors = omega (arith, c.if-given-n.false, k.rows, k.columns) }
+    record { room = has-room a q _ refl; suits = e.suits; some_columns = e.some_columns; panelled = e.panelled; vectors = omega (arith, c.if-given-n.false, k.rows, k.columns) }

@@ -5,7 +5,7 @@ use Rattle.beginning.proofs.Starts.{given}
 use Rattle.measure.proofs.ready.Goals as goal
 
 pub statistics-requires : goal.statistics-requires
-statistics-requires c = given c.args.fit.now c.requires.room
+statistics-requires c = given c.args.fit.now c.requires.suits c.requires.room
 
 pub reciprocals-requires : goal.reciprocals-requires
 reciprocals-requires c = room_of c.args.fit.now (omega arith)

@@ -3,4 +3,4 @@ use Rattle.beginning.proofs.Starts.{given}
 use Rattle.measure.proofs.worked.Goals as goal
 
 pub statistics-requires : goal.statistics-requires
-statistics-requires c = given c.args.fit.now c.requires.room
+statistics-requires c = given c.args.fit.now c.requires.suits c.requires.room

@@ -1,35 +1,37 @@
--- `sheet::count_remaining` meets its contract: what the filter lets through are the rows that remain. Assumes nothing.
-use mathlib.Core.Path.{◌≡◌, refl, ap, ◌∙◌}
-use mathlib.Core.Bool.{Bool, true, false, cond}
-use mathlib.Core.List.{List, [], ◌∷◌}
-use Prim.Native.Nat.{ℕ, zero, suc}
-use native.Mathlib.Nat.{zero-add}
-use native.Mathlib.Numerals.{add-one}
-use lib.ListN.{length}
-use Rattle.std.proofs.Common.{rules, tests}
-use Rattle.std.specs.Prelude.{not}
-use Rattle.std.specs.List.{range_with_len, filter}
-use Rattle.std.proofs.lemmas.List.{map-id}
-use Rattle.std.proofs.lemmas.List.FromFn.{filter_of_map_range_with_len_more}
-use Rattle.std.proofs.lemmas.Iterator.{YieldsList-from_range}
-use Rattle.std.proofs.lemmas.Iterator.Consumers.{YieldsList-from_filter, count_from_yields_List}
-use Rattle.sheet.specs.Rows.{left_of, cancelled, remaining}
+use mathlib.Core.Path.{◌≡◌, refl, sym, ◌∙◌}
+use mathlib.Core.Bool.{Bool, true, false, not}
+use mathlib.Core.List.{List}
+use mir.Val.{bool_byte}
+use Prim.Native.Nat.{ℕ, ◌+◌}
+use native.Mathlib.Omega.{arith}
+use Rattle.sheet.specs.Rows.{cancelled}
+use Rattle.sheet.proofs.Remaining.{place, none, place-next, place-most}
 use Rattle.sheet.proofs.count_remaining.Goals as goal
 
-turned : (t : Bool) (i : ℕ) → cond (not t) (i ∷ []) [] ≡ cond t [] (i ∷ [])
-turned true i = refl
-turned false i = refl
+-- a row that remains counts
+counted : (b : List ℕ) (p i left more : ℕ) (t : Bool) → cancelled b p i ≡ t → more ≡ bool_byte (not t) → left ≡ place b p i → left + more ≡ place b p (i + 1)
+counted b p i left more true e q h =
+    let k : place b p (i + 1) ≡ place b p i = place-next b p i true e in
+    omega arith
+counted b p i left more false e q h =
+    let k : place b p (i + 1) ≡ place b p i + 1 = place-next b p i false e in
+    omega arith
 
-filtered : (b : List ℕ) (p n : ℕ) → filter (λ i. not (cancelled b p i)) (range_with_len 0 n) ≡ remaining b p n
-unfolding left_of
-filtered b p zero = refl
-filtered b p (suc n) =
-    let more = filter_of_map_range_with_len_more (λ i. not (cancelled b p i)) (λ (i : ℕ). i) 0 n n (zero-add n) in
-    rw add-one at (simp map-id at more) ∙ rw (filtered b p n, turned (cancelled b p n) n)
+pub loop-i-init : goal.loop-i-init
+loop-i-init c = (omega arith, none _ _)
+
+pub overflow_add-left : goal.overflow_add-left
+overflow_add-left c =
+    let g = c.args in
+    let e = counted g.b.now g.p c.loop-i.i _ _ c.is_cancelled.result (sym c.is_cancelled.ensures) c.from-left.ensures c.loop-i.invariant.1 in
+    omega (arith, e, place-most g.b.now g.p (c.loop-i.i + 1))
+
+pub loop-i-preserved : goal.loop-i-preserved
+loop-i-preserved c =
+    let g = c.args in
+    (omega arith, counted g.b.now g.p c.loop-i.i _ _ c.is_cancelled.result (sym c.is_cancelled.ensures) c.from-left.ensures c.loop-i.invariant.1)
 
 pub returns : goal.returns
 returns c =
-    let g = c.args in
-    count_from_yields_List c.filter.result c.count.result c.count.ensures.ran
-    (YieldsList-from_filter _ (λ i. not (cancelled g.b.now g.p i)) (YieldsList-from_range 0 g.n g.n (cc) (search rules)) c.filter.ensures.closure (λ x r q k. search (rules, tests)))
-    ∙ ap length (filtered g.b.now g.p g.n)
+    let e : c.loop-i.i ≡ c.args.n = omega arith in
+    rw e at c.loop-i.invariant.1

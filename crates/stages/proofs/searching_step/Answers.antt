@@ -21,10 +21,10 @@ returns-in_default c =
     c.in_default.is c.if-j-lt100.false
 
 pub overflow_add-r : goal.overflow_add-r
-overflow_add-r c = omega (arith, c.requires.searching_in.inside, c.args.fit.now.limit_bound)
+overflow_add-r c = omega (arith, c.requires.searching_in.inside, c.requires.limit_bound)
 
 pub overflow_add-result-then-r-fit : goal.overflow_add-result-then-r-fit
-overflow_add-result-then-r-fit c = omega (arith, c.requires.searching_in.inside, c.args.fit.now.limit_bound)
+overflow_add-result-then-r-fit c = omega (arith, c.requires.searching_in.inside, c.requires.limit_bound)
 
 pub returns-then-r-fit : goal.returns-then-r-fit
 unfolding trial+

@@ -5,7 +5,7 @@ use Rattle.steps.proofs.one_step.Goals as goal
 pub opening_step-requires : goal.opening_step-requires
 opening_step-requires c =
     let g = c.in-Opening.is in
-    record { room = c.requires.room; known = opening-known c.args.rec g _ _ _ _ _ c.requires.known_at; opening_in = sane-at c.args.rec g _ c.requires.sane }
+    record { room = c.requires.room; suits = c.requires.suits; limit_bound = c.requires.limit_bound; known = opening-known c.args.rec g _ _ _ _ _ c.requires.known_at; opening_in = sane-at c.args.rec g _ c.requires.sane }
 
 pub solving_step-requires-clause-solving_in : goal.solving_step-requires-clause-solving_in
 solving_step-requires-clause-solving_in c = sane-at c.args.rec c.in-Solving.is _ c.requires.sane

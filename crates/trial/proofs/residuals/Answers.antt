@@ -7,4 +7,4 @@ use Rattle.trial.proofs.residuals.Goals as goal
 
 pub returns : goal.returns
 unfolding words
-returns c = renewed (held_of c.args.fit.now c.requires) (start c.args.fit.now.sizes c.args.s.now c.requires) c.args.fit.now.terms c.matvec.ensures c.sub.ensures
+returns c = renewed (held_of c.args.fit.now c.requires.suits c.requires.room) (start c.args.fit.now.sizes c.args.s.now c.requires.room) c.args.fit.now.terms c.matvec.ensures c.sub.ensures

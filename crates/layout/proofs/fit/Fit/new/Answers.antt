@@ -1,28 +1,40 @@
 -- `layout::fit::Fit::new` meets its contract. Assumes nothing.
 use mathlib.Core.Path.{refl, sym, subst}
 use Rattle.settings.proofs.Laws.{allowed-says}
-use Rattle.layout.proofs.Laws.{small-sizes, SizesAre, sizes-known, Panelled, panelled}
+use Rattle.layout.specs.Slots.{Panelled}
+use Rattle.layout.proofs.Laws.{small-sizes, SizesAre, sizes-known, panelled}
 use Rattle.layout.proofs.fit.Fit.new.Goals as goal
 
 pub place-requires : goal.place-requires
 place-requires c = rw c.sizes_of-sizes.ensures (small-sizes _ _ _ c.requires.n_bound c.requires.p_bound (allowed-says _ c.requires.allowed).panels)
 
 pub invariant_of-result : goal.invariant_of-result
-invariant_of-result c =
+invariant_of-result c = record { laid = c.place.ensures }
+
+pub returns-clause-suits : goal.returns-clause-suits
+returns-clause-suits c =
     let a = c.args in
-    let says = allowed-says a.st c.requires.allowed in
-    let is = c.sizes_of-sizes.ensures in
-    let known = subst (SizesAre a.n a.p) (sym is) (sizes-known a.n a.p a.st) in
-    let panels = subst Panelled (sym is) (panelled a.n a.p a.st says.panels) in
+    let known = subst (SizesAre a.n a.p) (sym c.sizes_of-sizes.ensures) (sizes-known a.n a.p a.st) in
     record {
-      laid = c.place.ensures;
-      small = rw is (small-sizes a.n a.p a.st c.requires.n_bound c.requires.p_bound says.panels);
-      lent = rw (known.rows, known.columns) c.requires.lent;
+      matrix = rw (known.rows, known.columns) c.requires.lent;
       rows = rw known.rows c.requires.n_bound;
-      some_columns = rw known.columns c.requires.some_columns;
+      columns = rw known.columns c.requires.p_bound;
       all = rw (known.all, known.rows, known.columns) refl;
       stored = known.stored;
-      panel_rows = panels.rows;
-      panel_columns = panels.columns;
-      limit_bound = says.max_iter;
     }
+
+pub returns-clause-some_columns : goal.returns-clause-some_columns
+returns-clause-some_columns c =
+    let a = c.args in
+    rw (subst (SizesAre a.n a.p) (sym c.sizes_of-sizes.ensures) (sizes-known a.n a.p a.st)).columns c.requires.some_columns
+
+pub returns-clause-panelled : goal.returns-clause-panelled
+returns-clause-panelled c =
+    let a = c.args in
+    subst Panelled (sym c.sizes_of-sizes.ensures) (panelled a.n a.p a.st (allowed-says a.st c.requires.allowed).panels)
+
+pub returns-clause-small : goal.returns-clause-small
+returns-clause-small c = rw c.sizes_of-sizes.ensures (small-sizes _ _ _ c.requires.n_bound c.requires.p_bound (allowed-says _ c.requires.allowed).panels)
+
+pub returns-clause-limit_bound : goal.returns-clause-limit_bound
+returns-clause-limit_bound c = (allowed-says c.args.st c.requires.allowed).max_iter
