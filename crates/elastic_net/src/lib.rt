@@ -17,7 +17,7 @@ use arrays::vectors::{fill, sweep};
 use beginning::{begin, fresh_scalars};
 use checks::{limits, start_values};
 use ending::{solution, wipe};
-use layout::fit::Fit;
+use layout::fit::{Fit, Ranged};
 use layout::need;
 use records::{Counts, Paused, clean, ended, first, possible, spent};
 use refusal::{Failure, Refusal, Way};
@@ -122,16 +122,17 @@ fn accepted(
         (state_of rec (vars (sizes_of n p st) s.old))) }
 {
     let fit = Fit::new(x, n, p, st);
-    match go(&fit, s, rec, budget) {
+    let ranged = Ranged { fit };
+    match go(&ranged.fit, s, rec, budget) {
         Stepped::Going(next) => {
-            tidy(&fit, s, budget);
+            tidy(&ranged.fit, s, budget);
             let r = clean(next);
             Resumed {
                 answer: Answer::Pending,
                 paused: r,
             }
         }
-        Stepped::Over(how, c) => finish(&fit, s, y, w, how, c),
+        Stepped::Over(how, c) => finish(&ranged.fit, s, y, w, how, c),
     }
 }
 
@@ -182,6 +183,7 @@ pub fn start(
     limits(n, p, x.len(), y.len(), p, st, s.len())?;
     start_values(x, y, n, p, st.normalise)?;
     let fit = Fit::new(x, n, p, st);
-    begin(&fit, y, s, need(fit.sizes));
-    Ok(first(fresh_scalars(p, fit.terms.lambda)))
+    let ranged = Ranged { fit };
+    begin(&ranged.fit, y, s, need(ranged.fit.sizes));
+    Ok(first(fresh_scalars(p, ranged.fit.terms.lambda)))
 }

@@ -1,6 +1,6 @@
 // What every part of a fit reads and none changes.
 
-ghost use Rattle.std.specs.Prelude.{◌≡◌, ◌*◌, ◌≤◌, T, length};
+ghost use Rattle.std.specs.Prelude.{◌≡◌, ◌+◌, ◌*◌, ◌≤◌, T, true, false, length};
 ghost use Rattle.layout.specs.Slots.{Laid, Suits, Panelled};
 ghost use Rattle.layout.specs.Need.{Small, sizes_of};
 ghost use Rattle.settings.specs.Settings.{allowed_of, terms_of};
@@ -52,4 +52,19 @@ impl<'a> Fit<'a> {
             limit: st.max_iter,
         }
     }
+}
+
+// A fit in 01's ranges, as `Fit::new` makes it. Each part of a fit may be called with its `fit`: what they ask of the fit itself is said here.
+#[derive(Clone, Copy)]
+pub struct Ranged<'a> {
+    pub fit: Fit<'a>,
+    pub ghost small: { Small fit.sizes },
+    pub ghost lent: { fit.sizes.n * fit.sizes.p ≤ length fit.matrix.now },
+    pub ghost rows: { fit.sizes.n ≤ 4096 },
+    pub ghost some_columns: { 1 ≤ fit.sizes.p },
+    pub ghost all: { fit.sizes.k ≡ fit.sizes.n + fit.sizes.p },
+    pub ghost stored: { fit.sizes.lazy ≡ false → fit.sizes.stored ≡ fit.sizes.k },
+    pub ghost panel_rows: { fit.sizes.lazy ≡ true → 1 ≤ fit.sizes.pr },
+    pub ghost panel_columns: { fit.sizes.lazy ≡ true → 1 ≤ fit.sizes.pc },
+    pub ghost limit_bound: { fit.limit ≤ 1000 },
 }

@@ -11,7 +11,7 @@ use c_values::{SETTINGS_WORDS, settings_from};
 use checks::limits;
 use design::statistics::{first_constant, statistics};
 use design_products::{matvec, transposed};
-use layout::fit::Fit;
+use layout::fit::{Fit, Ranged};
 use layout::{Sizes, need, place};
 use settings::{Settings, Terms};
 
@@ -129,7 +129,8 @@ pub fn measure_piece(
         return 0;
     }
     let fit = Fit::new(m, n, p, st);
-    repeat(&fit, Piece::from(what), given, s, count)
+    let ranged = Ranged { fit };
+    repeat(&ranged.fit, Piece::from(what), given, s, count)
 }
 
 fn repeat(fit: &Fit, piece: Piece, given: &[f64], s: &mut [f64], count: usize) -> usize

@@ -7,7 +7,7 @@ use c_values::settings_from;
 use checks::limits;
 use design_products::{matvec, transposed};
 use elastic_net::start;
-use layout::fit::Fit;
+use layout::fit::{Fit, Ranged};
 use numbers::bits::bits_of;
 use settings::{Settings, terms_of};
 use stored::Damaged;
@@ -126,8 +126,10 @@ impl Design<'_> {
             return false;
         };
         let fit = Fit::new(x, n, p, st);
-        matvec(&fit, s, fit.places.w, fit.places.z);
-        transposed(&fit, s, fit.places.nu, fit.places.xnu);
+        let ranged = Ranged { fit };
+        let l = ranged.fit.places;
+        matvec(&ranged.fit, s, l.w, l.z);
+        transposed(&ranged.fit, s, l.nu, l.xnu);
         true
     }
 
