@@ -2,7 +2,8 @@
 // wrong and nothing was done.
 #![tactic(auto)]
 
-ghost use Rattle.std.specs.Prelude.{◌≡◌, ◌≤◌, ◌+◌, ◌*◌, length};
+ghost use Rattle.std.specs.Prelude.{◌≡◌, ◌≤◌, ◌+◌, ◌*◌, false, length};
+ghost use Rattle.layout.specs.Need.{Small};
 ghost use Rattle.layout.specs.Slots.{HasRoom, Suits, Panelled};
 
 use arrays::vectors::copy_from;
@@ -14,6 +15,19 @@ use design_products::{matvec, transposed};
 use layout::fit::{Fit, Ranged};
 use layout::{Sizes, need, place};
 use settings::{Settings, Terms};
+
+// A fit in 01's ranges but for its panels, which no round of the solver reads: a `Ranged` without what that says of them.
+#[derive(Clone, Copy)]
+struct Unpanelled<'b, 'a> {
+    fit: &'b Fit<'a>,
+    ghost small: { Small fit.now.sizes },
+    ghost lent: { fit.now.sizes.n * fit.now.sizes.p ≤ length fit.now.matrix.now },
+    ghost rows: { fit.now.sizes.n ≤ 4096 },
+    ghost some_columns: { 1 ≤ fit.now.sizes.p },
+    ghost all: { fit.now.sizes.k ≡ fit.now.sizes.n + fit.now.sizes.p },
+    ghost stored: { fit.now.sizes.lazy ≡ false → fit.now.sizes.stored ≡ fit.now.sizes.k },
+    ghost limit_bound: { fit.now.limit ≤ 1000 },
+}
 
 // The solver inside a fit: its first lines, and `count` rounds. `given` has d1, d2, prb, prs, dxu and grad, in the order of the scratch.
 pub fn measure_round(
@@ -55,7 +69,8 @@ pub fn measure_round(
     };
     copy_from(s, fit.places.gram, gram, 0, p * p);
     copy_from(s, fit.places.d1, given, 0, 8 * p);
-    rounds(&fit, s, count);
+    let unpanelled = Unpanelled { fit: &fit };
+    rounds(unpanelled.fit, s, count);
     fit.places.dxu
 }
 
