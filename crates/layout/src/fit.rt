@@ -54,7 +54,7 @@ impl<'a> Fit<'a> {
     }
 }
 
-// A fit in 01's ranges, as `Fit::new` makes it. Each part of a fit may be called with its `fit`: what they ask of the fit itself is said here.
+// A fit in 01's ranges, as `Fit::new` makes it. Each part of a fit may be called with its `fit`: all that any of them asks of the fit alone is said here.
 #[derive(Clone, Copy)]
 pub struct Ranged<'a> {
     pub fit: Fit<'a>,

@@ -16,7 +16,7 @@ use layout::fit::{Fit, Ranged};
 use layout::{Sizes, need, place};
 use settings::{Settings, Terms};
 
-// A fit in 01's ranges but for its panels, which no round of the solver reads: a `Ranged` without what that says of them.
+// A fit in 01's ranges whose panels, which no round of the solver reads, may have no words: a `Ranged` without `panel_rows` and `panel_columns`.
 #[derive(Clone, Copy)]
 struct Unpanelled<'b, 'a> {
     fit: &'b Fit<'a>,
